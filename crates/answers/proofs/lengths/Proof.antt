@@ -1,0 +1,24 @@
+-- `answers::lengths` meets its contract.
+use borrow.Author.Tests.{eq-eqb, ne-eqb}
+use Rattle.answers.specs.Answers.{lengths}
+use Rattle.answers.proofs.lengths.Statement.{statement}
+use Rattle.answers.proofs.lengths.Tie as tie
+
+returns : tie.Need-returns
+unfolding lengths
+returns c = rw (ne-eqb _ _ (c .if1 .taken))
+
+returns-2 : tie.Need-returns-2
+unfolding lengths
+returns-2 c = rw (eq-eqb _ _ (c .before .if1 .left), ne-eqb _ _ (c .if2 .taken))
+
+returns-3 : tie.Need-returns-3
+unfolding lengths
+returns-3 c = rw (eq-eqb _ _ (c .before .before .if1 .left), eq-eqb _ _ (c .before .if2 .left), ne-eqb _ _ (c .if3 .taken))
+
+returns-4 : tie.Need-returns-4
+unfolding lengths
+returns-4 c = rw (eq-eqb _ _ (c .before .before .if1 .left), eq-eqb _ _ (c .before .if2 .left), eq-eqb _ _ (c .if3 .left))
+
+pub lengths-spec : {M : Type 1} → statement M
+lengths-spec = tie.close (tie.spec returns returns-2 returns-3 returns-4)

@@ -1,0 +1,2 @@
+-- The answer of a call, and the checks that several calls share.
+pub mod Answers

@@ -1,0 +1,109 @@
+// What a call comes back with, and the checks that several calls share.
+ghost use mathlib.Core.Path.{_≡_};
+ghost use Prim.Native.Nat.{_≤_};
+ghost use Rattle.answers.specs.Answers.{emptied, limitGood, lengths, refusal7, least, present, decompositionLength};
+use grid::fill;
+use leaves::Bad;
+
+// The three numbers: answer is 0 where the call is done, else the refusal.
+#[repr(C)]
+pub struct Answer {
+    pub answer: usize,
+    pub place: usize,
+    pub count: usize,
+}
+
+// A refusal before or after a run, which fills x with +0.0.
+pub fn refuse(answer: usize, place: usize, x: &mut [f64]) -> Answer
+    ensures { λ r. ⌜ (r, now (x .exit)) ≡ emptied answer place (now (x .entry)) ⌝ }
+{
+    fill(x);
+    Answer {
+        answer,
+        place,
+        count: 0,
+    }
+}
+
+// Refusal 7 with its place, or the pass.
+pub fn refusal7(b: Bad) -> Answer
+    ensures { λ r. ⌜ r ≡ refusal7 b ⌝ }
+{
+    match b {
+        Bad::At(k) => Answer {
+            answer: 7,
+            place: k,
+            count: 0,
+        },
+        Bad::Nowhere => Answer {
+            answer: 0,
+            place: 0,
+            count: 0,
+        },
+    }
+}
+
+// A pass or sweep limit is 1 to 60.
+pub fn limit_good(limit: usize) -> bool
+    ensures { λ r. ⌜ r ≡ limitGood limit ⌝ }
+{
+    if limit < 1 {
+        return false;
+    }
+    limit <= 60
+}
+
+// Refusal 6 with the first array whose length is not the one wanted, or the pass.
+pub fn lengths(a: usize, want_a: usize, b: usize, want_b: usize, c: usize, want_c: usize) -> Answer
+    ensures { λ r. ⌜ r ≡ lengths a «want_a» b «want_b» c «want_c» ⌝ }
+{
+    if a != want_a {
+        return Answer {
+            answer: 6,
+            place: 0,
+            count: 0,
+        };
+    }
+    if b != want_b {
+        return Answer {
+            answer: 6,
+            place: 1,
+            count: 0,
+        };
+    }
+    if c != want_c {
+        return Answer {
+            answer: 6,
+            place: 2,
+            count: 0,
+        };
+    }
+    Answer {
+        answer: 0,
+        place: 0,
+        count: 0,
+    }
+}
+
+// r, the smaller of m and n.
+pub fn least(m: usize, n: usize) -> usize
+    ensures { λ r. ⌜ r ≡ least m n ⌝ }
+{
+    if m < n { m } else { n }
+}
+
+// count where the flag is not 0, else nothing.
+pub fn present(flag: usize, count: usize) -> usize
+    ensures { λ r. ⌜ r ≡ present flag count ⌝ }
+{
+    if flag == 0 { 0 } else { count }
+}
+
+// How many numbers an svd result has: r values, U if it is there, V^T if it is there.
+pub fn decomposition_length(m: usize, n: usize, has_u: usize, has_vt: usize) -> usize
+    requires { ⌜ (m ≤ 256) × (n ≤ 256) ⌝ }
+    ensures { λ r. ⌜ r ≡ decompositionLength m n «has_u» «has_vt» ⌝ }
+{
+    let r = least(m, n);
+    r + present(has_u, m * r) + present(has_vt, r * n)
+}

@@ -1,0 +1,2 @@
+-- The worked table.
+mod Worked

@@ -1,0 +1,150 @@
+-- 01's worked numbers that are marked P: one table, and one claim about it. Numbers stand by their bits.
+use mathlib.Core.Path.{_≡_, refl}
+use mathlib.Core.Bool.{Bool, true, false, _&&_}
+use mathlib.Core.List.{List, [], _∷_, _++_, map}
+use Prim.Native.Nat.{ℕ, _+_, _*_}
+use lib.Dec.{eqb}
+use lib.ListN.{length, replicate}
+use lib.Ieee.{Float, binary64, ofBits, toBits, add, sub, mul, div, neg, lt, le, eq, ne}
+use Rattle.grid.specs.Real.{Vec, one64}
+use Rattle.answers.specs.declared.Answer.{Answer}
+use Rattle.grid.specs.Loop as lo
+use Rattle.grid.specs.Table as ta
+use Rattle.leaves.specs.Root as ro
+use Rattle.leaves.specs.Leaf as le
+use Rattle.leaves.specs.Scan as sc
+use Rattle.answers.specs.Answers as an
+use Rattle.tred.specs.Tred as tr
+use Rattle.pass.specs.Pass as pa
+use Rattle.ql.specs.Ql as ql
+use Rattle.eigen.specs.Eigen as ei
+use Rattle.jacobi.specs.Jacobi as ja
+use Rattle.svd.specs.Order as so
+use Rattle.svd.specs.Svd as sv
+use Rattle.solve.specs.Solve as sl
+use Rattle.qr.specs.Qr as qr
+
+-- one call by its inputs, and what 01 says of it
+data Row : Type 0 where
+  root : (x r : ℕ) → Row
+  hypot : (x y r : ℕ) → Row
+  eigen : (n : ℕ) (matrix : List ℕ) (answer place count : ℕ) (result : List ℕ) → Row
+  svd : (m n : ℕ) (matrix : List ℕ) (count : ℕ) (result : List ℕ) → Row
+  pseudoInverse : (m n tolerance : ℕ) (decomposition answer : List ℕ) → Row
+  qrQ : (m k : ℕ) (matrix answer : List ℕ) → Row
+
+alike : List ℕ → List ℕ → Bool
+alike [] [] = true
+alike [] (y ∷ ys) = false
+alike (x ∷ xs) [] = false
+alike (x ∷ xs) (y ∷ ys) = eqb x y && alike xs ys
+
+numbers : Answer → List ℕ
+numbers a = a .answer ∷ a .place ∷ a .count ∷ []
+
+-- the definitions, opened once
+unfoldable number : ℕ → Float
+unfolding ofBits
+number b = ofBits binary64 b
+
+unfoldable bits : Vec → List ℕ
+unfolding toBits
+bits v = map (toBits binary64) v
+
+unfoldable of-bits : List ℕ → Vec
+unfolding number
+of-bits l = map number l
+
+-- what is lent before: so many ones, which must not matter
+ones : ℕ → Vec
+ones n = replicate n one64
+
+-- a call gives these numbers: (three numbers, work, result)
+unfoldable given : Row → List ℕ
+unfolding ofBits toBits number bits of-bits numbers ones add sub mul div neg lt le eq ne lo.seek lo.first lo.times lo.upto lo.down lo.rounds lo.drops lo.fall ta.table ta.rows ta.turns ro.whole ro.rootOf ro.root le.magnitude le.larger le.isFinite le.hypotOf le.hypot sc.firstBad sc.placeOf sc.badLower sc.firstBadLower sc.firstBadOf sc.firstBadCell sc.after an.limitGood an.lengths an.least an.present an.decompositionLength tr.scaleOf tr.skipRow tr.overScale tr.clear tr.against tr.generate tr.similarColumn tr.similarity tr.overH tr.lessen tr.updateColumn tr.updates tr.reflect tr.skip tr.reduce tr.householder tr.reduction tr.columnOver tr.dot tr.takeOff tr.turn tr.clearColumn tr.apply tr.accumulate tr.accumulation tr.copyLast tr.moveLast tr.tred2 pa.pythag pa.signed pa.shift pa.lessened pa.rotated pa.spin pa.spins pa.landed pa.transformed pa.mark1 pa.verdict pa.pass ql.movedUp ql.split ql.opened ql.iterated ql.closed ql.stage ql.turn ql.run ql.least ql.swapped ql.sortStep ql.sorted ql.mark2 ql.finished ql.tql2 ei.copyRow ei.columns ei.mirrorRow ei.rows ei.mark0 ei.marked ei.decomposed ei.given ei.entered ei.eigen ja.gram ja.skipped ja.rotationOf ja.turned ja.pairDone ja.pairsOf ja.sweep ja.factorsBad ja.verdict ja.swept ja.sweeps ja.normSq ja.divided ja.normalStep ja.normalised ja.allBad ja.finished ja.jacobi so.rank so.noted so.order sv.longest sv.workLength sv.source sv.columnLoaded sv.matrixLoaded sv.eyed sv.loaded sv.columnOut sv.factorOut sv.sortedOut sv.checks sv.ran sv.svd sl.columnSum sl.coefficient sl.solution sl.inverse sl.pinvSum sl.inverted sl.dot sl.solveChecks sl.inverseChecks sl.marked sl.solve sl.pseudoInverse qr.dot qr.lessened qr.pass qr.passes qr.norm qr.over qr.normalised qr.putColumn qr.finished qr.column qr.columns qr.checks qr.qrQ
+given (root x r) = toBits binary64 (ro.root (number x)) ∷ []
+given (hypot x y r) = toBits binary64 (le.hypot (number x) (number y)) ∷ []
+given (eigen n matrix answer place count result) =
+    let x = ei.eigen n 60 (of-bits matrix) (ones n) (ones (n + n * n)) in
+    numbers (x .0) ++ bits (x .1) ++ bits (x .2)
+given (svd m n matrix count result) =
+    let x = sv.svd m n 1 1 60 (of-bits matrix) (ones (sv.workLength m n)) (ones (length result)) in
+    numbers (x .0) ++ bits (x .1) ++ bits (x .2)
+given (pseudoInverse m n tolerance decomposition answer) =
+    let x = sl.pseudoInverse m n 1 1 (number tolerance) (of-bits decomposition) (ones (n * m)) in
+    numbers (x .0) ++ bits (x .1)
+given (qrQ m k matrix answer) =
+    let x = qr.qrQ m k (of-bits matrix) (ones (m * k)) in
+    numbers (x .0) ++ bits (x .1)
+
+-- what it should give
+unfoldable wanted : Row → List ℕ
+unfolding sv.workLength sv.longest an.least
+wanted (root x r) = r ∷ []
+wanted (hypot x y r) = r ∷ []
+wanted (eigen n matrix answer place count result) = (answer ∷ place ∷ count ∷ []) ++ replicate n 0 ++ result
+wanted (svd m n matrix count result) = (0 ∷ 0 ∷ count ∷ []) ++ replicate (sv.workLength m n) 0 ++ result
+wanted (pseudoInverse m n tolerance decomposition answer) = (0 ∷ 0 ∷ 0 ∷ []) ++ answer
+wanted (qrQ m k matrix answer) = (0 ∷ 0 ∷ 0 ∷ []) ++ answer
+
+unfoldable all : List Row → Bool
+unfolding alike given wanted
+all [] = true
+all (r ∷ rs) = alike (given r) (wanted r) && all rs
+
+-- numbers by their bits
+abbrev quarter : ℕ
+quarter = 0x3fd0_0000_0000_0000
+
+abbrev half : ℕ
+half = 0x3fe0_0000_0000_0000
+
+abbrev one : ℕ
+one = 0x3ff0_0000_0000_0000
+
+abbrev two : ℕ
+two = 0x4000_0000_0000_0000
+
+abbrev three : ℕ
+three = 0x4008_0000_0000_0000
+
+abbrev four : ℕ
+four = 0x4010_0000_0000_0000
+
+abbrev five : ℕ
+five = 0x4014_0000_0000_0000
+
+abbrev minus-zero : ℕ
+minus-zero = 0x8000_0000_0000_0000
+
+abbrev not-a-number : ℕ
+not-a-number = 0x7ff8_0000_0000_0000
+
+-- the svd of the diagonal matrix (2, 4): values 4, 2, U and V^T
+abbrev decomposition : List ℕ
+decomposition = four ∷ two ∷ 0 ∷ one ∷ one ∷ 0 ∷ 0 ∷ one ∷ one ∷ 0 ∷ []
+
+table : List Row
+table =
+    root four two
+    ∷ root minus-zero minus-zero
+    ∷ root 1 0x1e60_0000_0000_0000
+    ∷ root two 0x3ff6_a09e_667f_3bcd
+    ∷ hypot three four five
+    ∷ hypot 0 0 0
+    ∷ eigen 0 [] 0 0 0 []
+    ∷ eigen 1 (minus-zero ∷ []) 0 0 0 (0 ∷ one ∷ [])
+    ∷ eigen 2 (two ∷ 0 ∷ 0 ∷ one ∷ []) 0 0 0 (one ∷ two ∷ 0 ∷ one ∷ one ∷ 0 ∷ [])
+    ∷ eigen 2 (one ∷ not-a-number ∷ 0 ∷ two ∷ []) 0 0 0 (one ∷ two ∷ one ∷ 0 ∷ 0 ∷ one ∷ [])
+    ∷ eigen 2 (one ∷ 0 ∷ not-a-number ∷ two ∷ []) 7 2 0 (0 ∷ 0 ∷ 0 ∷ 0 ∷ 0 ∷ 0 ∷ [])
+    ∷ svd 2 2 (two ∷ 0 ∷ 0 ∷ four ∷ []) 1 decomposition
+    ∷ pseudoInverse 2 2 0 decomposition (half ∷ 0 ∷ 0 ∷ quarter ∷ [])
+    ∷ pseudoInverse 2 2 two decomposition (0 ∷ 0 ∷ 0 ∷ quarter ∷ [])
+    ∷ qrQ 1 1 (0x3cb0_0000_0000_0000 ∷ []) (0 ∷ [])
+    ∷ qrQ 1 1 (0x3cc0_0000_0000_0000 ∷ []) (one ∷ [])
+    ∷ []
+
+-- T6
+worked : all table ≡ true
+unfolding all table
+worked = refl

@@ -1,0 +1,2 @@
+-- The theorems about `symmetric_eigen`.
+mod Theorems

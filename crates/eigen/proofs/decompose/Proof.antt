@@ -1,0 +1,40 @@
+-- `eigen::decompose` meets its contract.
+use native.Mathlib.Omega.{arith}
+use borrow.Author.Needs.{needs}
+use Rattle.eigen.specs.Eigen.{decomposed}
+use Rattle.eigen.proofs.decompose.Statement.{statement}
+use Rattle.eigen.proofs.decompose.Tie as tie
+
+columns-requires : tie.Need-columns-requires
+columns-requires c κs = search needs
+
+tred2-requires : tie.Need-tred2-requires
+tred2-requires c κs = search needs
+
+marked-requires : tie.Need-marked-requires
+marked-requires c κs = search needs
+
+same-length : tie.Need-same-length
+same-length c = omega arith
+
+same-length-2 : tie.Need-same-length-2
+same-length-2 c = omega arith
+
+same-length-3 : tie.Need-same-length-3
+same-length-3 c = omega arith
+
+returns : tie.Need-returns
+unfolding decomposed
+returns c = rw (← c .before .before .before .before .before .before .before .before .before .before .before .before .before .before .before .before .before .before .before .before .before .before .columns .ensures, ← c .before .before .before .before .before .before .before .before .before .before .before .before .before .before .before .before .tred2 .ensures) (c .before .before .before .before .before .before .marked .ensures)
+
+pub decompose-spec : {M : Type 1} → statement M
+decompose-spec =
+    tie.close
+    (tie.spec
+    columns-requires
+    tred2-requires
+    marked-requires
+    same-length
+    same-length-2
+    same-length-3
+    returns)

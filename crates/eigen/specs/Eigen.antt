@@ -1,0 +1,81 @@
+-- What a call of `symmetric_eigen` gives, for every input: (answer, work afterwards, result afterwards), in the order of 01's table.
+use mathlib.Core.Bool.{Bool, cond, not, _||_}
+use mathlib.Core.List.{_++_}
+use Prim.Native.Nat.{ℕ, _+_, _*_}
+use lib.Dec.{ltb, eqb}
+use lib.ListN.{length}
+use Rattle.grid.specs.Loop.{upto}
+use Rattle.grid.specs.Real.{Vec, zeros}
+use Rattle.grid.specs.Cell.{at2, put2, entry}
+use Rattle.leaves.specs.Scan.{isBad, firstBadCell, firstBadLower}
+use Rattle.answers.specs.Answers.{answered, done, refused, passed, limitGood, lengths, refusal7}
+use Rattle.answers.specs.declared.Answer.{Answer}
+use Rattle.tred.specs.Tred.{tred2}
+use Rattle.pass.specs.Pass.{mark1}
+use Rattle.ql.specs.Ql.{tql2}
+
+-- ---- the matrix comes in row by row and is worked on column by column: cell (i, j) of v is entry (i, j) of a
+
+abbrev pub copyStep : ℕ → Vec → ℕ → ℕ → Vec → Vec
+copyStep n a i j v = put2 v n i j (entry a n i j)
+
+unfoldable pub copyRow : ℕ → Vec → ℕ → Vec → Vec
+copyRow n a i v = upto (copyStep n a i) 0 n v
+
+unfoldable pub columns : ℕ → Vec → Vec → Vec
+columns n a v = upto (copyRow n a) 0 n v
+
+-- ---- the vectors go out row by row: each cell below the diagonal changes places with its mirror
+
+abbrev pub mirrorStep : ℕ → ℕ → ℕ → Vec → Vec
+mirrorStep n i j v =
+    let x = at2 v n i j in
+    let y = at2 v n j i in
+    put2 (put2 v n i j y) n j i x
+
+unfoldable pub mirrorRow : ℕ → ℕ → Vec → Vec
+mirrorRow n i v = upto (mirrorStep n i) 0 i v
+
+unfoldable pub rows : ℕ → Vec → Vec
+rows n v = upto (mirrorRow n) 0 n v
+
+-- ---- the run: of (v, d, e) as they are lent, to (answer, v, d, e)
+
+-- mark 0: a number of d, of e or of v is not finite
+unfoldable pub mark0 : ℕ → Vec → Vec → Vec → Bool
+mark0 n v d e = mark1 d e || isBad (firstBadCell n v)
+
+-- after tred2: mark 0, or tql2
+unfoldable pub marked : ℕ → ℕ → Vec × Vec × Vec → Answer × Vec × Vec × Vec
+marked n limit x = cond (mark0 n (x .0) (x .1) (x .2)) (answered 8 0 0, x .0, x .1, x .2) (tql2 n limit x)
+
+unfoldable pub decomposed : ℕ → ℕ → Vec → Vec × Vec × Vec → Answer × Vec × Vec × Vec
+decomposed n limit a x = marked n limit (tred2 n (columns n a (x .0), x .1, x .2))
+
+-- ---- what is lent afterwards
+
+-- on 7, 8 and 9 work and result are all +0.0
+abbrev pub cleared : ℕ → Answer → Answer × Vec × Vec
+cleared n x = (x, zeros n, zeros (n + n * n))
+
+-- on 0 the values come first in the result, and the vectors row by row behind them
+unfoldable pub given : ℕ → Answer × Vec × Vec × Vec → Answer × Vec × Vec
+given n x = cond (passed (x .0)) (x .0, zeros n, x .2 ++ rows n (x .1)) (cleared n (x .0))
+
+-- ---- the call
+
+-- sizes, limit and lengths are as they should be
+unfoldable pub entered : ℕ → ℕ → Vec → Answer × Vec × Vec
+entered n limit a =
+    let x = refusal7 (firstBadLower n a) in
+    cond (passed x)
+    (cond (eqb n 0) (cleared n (done 0)) (given n (decomposed n limit a (zeros (n * n), zeros n, zeros n))))
+    (cleared n x)
+
+-- 1, 2 and 6 leave work and result as they were
+unfoldable pub eigen : ℕ → ℕ → Vec → Vec → Vec → Answer × Vec × Vec
+eigen n limit a work result =
+    let x = lengths (length a) (n * n) (length work) n (length result) (n + n * n) in
+    cond (ltb 256 n)
+    (refused 1 0, work, result)
+    (cond (not (limitGood limit)) (refused 2 0, work, result) (cond (passed x) (entered n limit a) (x, work, result)))

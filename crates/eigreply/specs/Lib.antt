@@ -1,0 +1,2 @@
+-- The answer to a text.
+pub mod Reply

@@ -1,0 +1,65 @@
+-- `jacobi::all_bad` meets its contract.
+use borrow.Author.Needs.{needs}
+use Rattle.jacobi.specs.Jacobi.{allBad}
+use native.Mathlib.Nat.{add-sub-cancel-left, add-zero}
+use Rattle.jacobi.proofs.all_bad.Statement.{statement}
+use Rattle.jacobi.proofs.all_bad.Tie as tie
+
+mul-s : tie.Need-mul-s
+mul-s c = search needs
+
+mul-s-2 : tie.Need-mul-s-2
+mul-s-2 c = search needs
+
+add-s : tie.Need-add-s
+add-s c = search needs
+
+add-first-bad : tie.Need-add-first-bad
+add-first-bad c = search needs
+
+mul-first-bad : tie.Need-mul-first-bad
+mul-first-bad c = search needs
+
+sub-first-bad : tie.Need-sub-first-bad
+sub-first-bad c = search needs
+
+part-first-bad-start : tie.Need-part-first-bad-start
+part-first-bad-start c = search needs
+
+part-first-bad-end : tie.Need-part-first-bad-end
+part-first-bad-end c = search needs
+
+first-bad-requires : tie.Need-first-bad-requires
+first-bad-requires c κs = search needs
+
+is-bad-requires : tie.Need-is-bad-requires
+is-bad-requires c κs = search needs
+
+returns : tie.Need-returns
+unfolding allBad
+returns c = rw (add-zero, ← (rw add-sub-cancel-left at (c .before .before .first-bad .ensures)), ← c .before .is-bad .ensures, c .if1 .taken)
+
+factors-bad-requires : tie.Need-factors-bad-requires
+factors-bad-requires c κs = search needs
+
+returns-2 : tie.Need-returns-2
+unfolding allBad
+returns-2 c = rw (add-zero, ← (rw add-sub-cancel-left at (c .before .before .before .first-bad .ensures)), ← c .before .before .is-bad .ensures, c .before .if1 .left) (c .factors-bad .ensures)
+
+pub all-bad-spec : {M : Type 1} → statement M
+all-bad-spec =
+    tie.close
+    (tie.spec
+    mul-s
+    mul-s-2
+    add-s
+    add-first-bad
+    mul-first-bad
+    sub-first-bad
+    part-first-bad-start
+    part-first-bad-end
+    first-bad-requires
+    is-bad-requires
+    returns
+    factors-bad-requires
+    returns-2)

@@ -1,0 +1,283 @@
+// One-sided Jacobi on the work array w, which holds the factor u (rows by cols), the factor v (cols by cols), both column by
+// column, and a value for each column. A column is handed on as the index in w at which it begins, so that one function serves
+// both factors and every inner loop walks along memory.
+ghost use mathlib.Core.Path.{_≡_};
+ghost use Prim.Native.Nat.{_+_, _*_, _≤_, _<_};
+ghost use lib.ListN.{length};
+ghost use Rattle.jacobi.specs.Jacobi.{Sized, gram, skipped, signOf, rotationOf, turned, pairDone, pairsOf, sweep, factorsBad, verdict, swept, sweeps, normSq, divided, normalStep, normalised, allBad, finished, jacobi};
+use answers::Answer;
+use grid::at1;
+use grid::put1;
+use leaves::Bad;
+use leaves::first_bad;
+use leaves::first_bad_cell;
+use leaves::is_bad;
+use leaves::magnitude;
+use leaves::root;
+
+const EPSILON: f64 = 1.0 / 4503599627370496.0;
+
+// The sub-Gram of a pair of columns: alpha and beta are their squared norms, gamma their product.
+pub struct Sums {
+    pub alpha: f64,
+    pub beta: f64,
+    pub gamma: f64,
+}
+
+// The pair's rotation turns both factors.
+pub struct Rotation {
+    pub c: f64,
+    pub s: f64,
+    pub t: f64,
+}
+
+fn gram(w: &[f64], a: usize, b: usize, rows: usize) -> Sums
+    requires { ⌜ (a + rows ≤ length (now w)) × (b + rows ≤ length (now w)) ⌝ }
+    ensures { λ x. ⌜ x ≡ gram a b rows (now (w .entry)) ⌝ }
+{
+    let mut x = Sums {
+        alpha: 0.0,
+        beta: 0.0,
+        gamma: 0.0,
+    };
+    for i in 0..rows {
+        let up = at1(w, a + i);
+        let uq = at1(w, b + i);
+        x = Sums {
+            alpha: x.alpha + up * up,
+            beta: x.beta + uq * uq,
+            gamma: x.gamma + up * uq,
+        };
+    }
+    x
+}
+
+// Whether the columns are orthogonal to working precision.
+fn skipped(x: Sums) -> bool
+    ensures { λ b. ⌜ b ≡ skipped x ⌝ }
+{
+    if x.gamma == 0.0 {
+        return true;
+    }
+    magnitude(x.gamma) <= EPSILON * root(x.alpha * x.beta)
+}
+
+// -0.0 takes +1.0.
+fn sign_of(zeta: f64) -> f64
+    ensures { λ x. ⌜ x ≡ signOf zeta ⌝ }
+{
+    if zeta >= 0.0 { 1.0 } else { -1.0 }
+}
+
+fn rotation_of(x: Sums) -> Rotation
+    ensures { λ rot. ⌜ rot ≡ rotationOf x ⌝ }
+{
+    let zeta = (x.beta - x.alpha) / (2.0 * x.gamma);
+    let t = sign_of(zeta) / (magnitude(zeta) + root(1.0 + zeta * zeta));
+    let c = 1.0 / root(1.0 + t * t);
+    Rotation { c, s: c * t, t }
+}
+
+// Turns the columns at a and b.
+fn turn(w: &mut [f64], a: usize, b: usize, rows: usize, rot: Rotation)
+    requires { ⌜ (a + rows ≤ length (now w)) × (b + rows ≤ length (now w)) ⌝ }
+    ensures { λ _. ⌜ now (w .exit) ≡ turned a b rows rot (now (w .entry)) ⌝ }
+{
+    for i in 0..rows {
+        let up = at1(w, a + i);
+        let uq = at1(w, b + i);
+        put1(w, a + i, rot.c * up - rot.s * uq);
+        put1(w, b + i, rot.s * up + rot.c * uq);
+    }
+}
+
+// Columns p and q. What comes back says whether a pair has turned, this one or one before.
+fn pair(rows: usize, cols: usize, p: usize, q: usize, changed: bool, w: &mut [f64]) -> bool
+    requires { ⌜ (p < cols) × (q < cols) × Sized rows cols (now w) ⌝ }
+    ensures { λ b. ⌜ (b, now (w .exit)) ≡ pairDone rows cols p q (changed, now (w .entry)) ⌝ }
+{
+    let g = gram(w, p * rows, q * rows, rows);
+    if skipped(g) {
+        return changed;
+    }
+    let rot = rotation_of(g);
+    turn(w, p * rows, q * rows, rows, rot);
+    turn(w, rows * cols + p * cols, rows * cols + q * cols, cols, rot);
+    true
+}
+
+// Column p with every later one.
+fn pairs_of(rows: usize, cols: usize, p: usize, changed0: bool, w: &mut [f64]) -> bool
+    requires { ⌜ (p < cols) × Sized rows cols (now w) ⌝ }
+    ensures { λ b. ⌜ (b, now (w .exit)) ≡ pairsOf rows cols p (changed0, now (w .entry)) ⌝ }
+{
+    let mut changed = changed0;
+    for q in p + 1..cols {
+        changed = pair(rows, cols, p, q, changed, w);
+    }
+    changed
+}
+
+// Every pair once. Says whether a pair turned.
+fn sweep(rows: usize, cols: usize, w: &mut [f64]) -> bool
+    requires { ⌜ Sized rows cols (now w) ⌝ }
+    ensures { λ b. ⌜ (b, now (w .exit)) ≡ sweep rows cols (now (w .entry)) ⌝ }
+{
+    let mut changed = false;
+    for p in 0..cols {
+        changed = pairs_of(rows, cols, p, changed, w);
+    }
+    changed
+}
+
+// Mark 1: the first number of the factors that is not finite, u first.
+fn factors_bad(rows: usize, cols: usize, w: &[f64]) -> Bad
+    requires { ⌜ Sized rows cols (now w) ⌝ }
+    ensures { λ b. ⌜ b ≡ factorsBad rows cols (now (w .entry)) ⌝ }
+{
+    let v = rows * cols;
+    let b = first_bad_cell(cols, &w[..v]);
+    if is_bad(b) {
+        return b;
+    }
+    first_bad_cell(cols, &w[v..v + cols * cols])
+}
+
+// What a sweep ends with: 9 stands until the next sweep, if the limit leaves one.
+fn verdict(b: Bad, changed: bool, count: usize) -> Answer
+    ensures { λ r. ⌜ r ≡ verdict b changed count ⌝ }
+{
+    if is_bad(b) {
+        return Answer {
+            answer: 8,
+            place: 1,
+            count,
+        };
+    }
+    if changed {
+        return Answer {
+            answer: 9,
+            place: count,
+            count,
+        };
+    }
+    Answer {
+        answer: 0,
+        place: 0,
+        count,
+    }
+}
+
+// One sweep more.
+fn swept(rows: usize, cols: usize, before: Answer, w: &mut [f64]) -> Answer
+    requires { ⌜ (before .count < 60) × Sized rows cols (now w) ⌝ }
+    ensures { λ r. ⌜ (r, now (w .exit)) ≡ swept rows cols (before, now (w .entry)) ⌝ }
+{
+    let changed = sweep(rows, cols, w);
+    let b = factors_bad(rows, cols, w);
+    verdict(b, changed, before.count + 1)
+}
+
+// Sweeps until one ends the run, at most limit.
+fn sweeps(rows: usize, cols: usize, limit: usize, w: &mut [f64]) -> Answer
+    requires { ⌜ (limit ≤ 60) × Sized rows cols (now w) ⌝ }
+    ensures { λ r. ⌜ (r, now (w .exit)) ≡ sweeps rows cols limit (now (w .entry)) ⌝ }
+{
+    let mut run = Answer {
+        answer: 9,
+        place: 0,
+        count: 0,
+    };
+    let mut left = limit;
+    while left > 0 {
+        run = swept(rows, cols, run, w);
+        if run.answer != 9 {
+            return run;
+        }
+        left -= 1;
+    }
+    run
+}
+
+fn norm_sq(w: &[f64], a: usize, rows: usize) -> f64
+    requires { ⌜ a + rows ≤ length (now w) ⌝ }
+    ensures { λ x. ⌜ x ≡ normSq a rows (now (w .entry)) ⌝ }
+{
+    let mut sum = 0.0;
+    for i in 0..rows {
+        let x = at1(w, a + i);
+        sum = sum + x * x;
+    }
+    sum
+}
+
+fn divide(w: &mut [f64], a: usize, rows: usize, norm: f64)
+    requires { ⌜ a + rows ≤ length (now w) ⌝ }
+    ensures { λ _. ⌜ now (w .exit) ≡ divided a rows norm (now (w .entry)) ⌝ }
+{
+    for i in 0..rows {
+        put1(w, a + i, at1(w, a + i) / norm);
+    }
+}
+
+// The norm of column j is its value. A column of norm 0 is not divided.
+fn normalise_column(rows: usize, cols: usize, j: usize, w: &mut [f64])
+    requires { ⌜ (j < cols) × Sized rows cols (now w) ⌝ }
+    ensures { λ _. ⌜ now (w .exit) ≡ normalStep rows cols j (now (w .entry)) ⌝ }
+{
+    let norm = root(norm_sq(w, j * rows, rows));
+    put1(w, rows * cols + cols * cols + j, norm);
+    if norm > 0.0 {
+        divide(w, j * rows, rows, norm);
+    }
+}
+
+fn normalise(rows: usize, cols: usize, w: &mut [f64])
+    requires { ⌜ Sized rows cols (now w) ⌝ }
+    ensures { λ _. ⌜ now (w .exit) ≡ normalised rows cols (now (w .entry)) ⌝ }
+{
+    for j in 0..cols {
+        normalise_column(rows, cols, j, w);
+    }
+}
+
+// Mark 2: the values, then the factors.
+fn all_bad(rows: usize, cols: usize, w: &[f64]) -> Bad
+    requires { ⌜ Sized rows cols (now w) ⌝ }
+    ensures { λ b. ⌜ b ≡ allBad rows cols (now (w .entry)) ⌝ }
+{
+    let s = rows * cols + cols * cols;
+    let b = first_bad(&w[s..s + cols]);
+    if is_bad(b) {
+        return b;
+    }
+    factors_bad(rows, cols, w)
+}
+
+// The values, where the sweeps settled.
+fn finish(rows: usize, cols: usize, run: Answer, w: &mut [f64]) -> Answer
+    requires { ⌜ Sized rows cols (now w) ⌝ }
+    ensures { λ r. ⌜ (r, now (w .exit)) ≡ finished rows cols (run, now (w .entry)) ⌝ }
+{
+    normalise(rows, cols, w);
+    if is_bad(all_bad(rows, cols, w)) {
+        return Answer {
+            answer: 8,
+            place: 2,
+            count: run.count,
+        };
+    }
+    run
+}
+
+pub fn jacobi(rows: usize, cols: usize, limit: usize, w: &mut [f64]) -> Answer
+    requires { ⌜ (limit ≤ 60) × Sized rows cols (now w) ⌝ }
+    ensures { λ r. ⌜ (r, now (w .exit)) ≡ jacobi rows cols limit (now (w .entry)) ⌝ }
+{
+    let run = sweeps(rows, cols, limit, w);
+    if run.answer == 0 {
+        finish(rows, cols, run, w)
+    } else {
+        run
+    }
+}

@@ -1,0 +1,11 @@
+-- What the functions' proofs share, and the theorems about `root`: `Nearest`, `Neighbours`.
+mod Whole
+mod Fields
+mod Patterns
+mod Middle
+mod Worked
+mod Rounds
+mod Nearest
+mod Neighbours
+mod Sign
+mod Search

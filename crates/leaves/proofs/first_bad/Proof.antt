@@ -1,0 +1,58 @@
+-- `leaves::first_bad` meets its contract.
+use mathlib.Core.Path.{_≡_, refl}
+use Prim.Native.Nat.{_-_, _≤_}
+use native.Mathlib.Omega.{arith}
+use borrow.Author.Needs.{needs}
+use lib.ListN.{length}
+use Rattle.grid.specs.Loop.{first, first-next}
+use Rattle.leaves.specs.Scan.{notFinite, firstBad}
+use Rattle.leaves.proofs.Search.{found-here, found-none}
+use Rattle.leaves.proofs.first_bad.Statement.{statement}
+use Rattle.leaves.proofs.first_bad.Tie as tie
+
+abbrev Inv-loop : tie.InvT-loop
+Inv-loop d k₀ k-end k = (k ≤ length d) × (first (notFinite d) k (length d) ≡ first (notFinite d) 0 (length d))
+
+abbrev μ-loop : tie.MeasureT-loop
+μ-loop d k₀ k-end k = length d - k
+
+loop-holds : tie.Need-loop-holds Inv-loop μ-loop
+loop-holds c = (omega arith, refl)
+
+at1-requires : tie.Need-at1-requires Inv-loop μ-loop
+at1-requires c κs = search needs
+
+is-finite-requires : tie.Need-is-finite-requires Inv-loop μ-loop
+is-finite-requires c κs = search needs
+
+returns : tie.Need-returns Inv-loop μ-loop
+unfolding firstBad
+returns c = found-here _ _ _ (omega arith) (rw (← c .before .before .at1 .ensures, ← c .before .is-finite .ensures) (c .if1 .taken)) (c .before .before .before .before .loop .inv .1)
+
+add-k : tie.Need-add-k Inv-loop μ-loop
+add-k c = omega arith
+
+loop-less : tie.Need-loop-less Inv-loop μ-loop
+loop-less c = omega arith
+
+loop-again : tie.Need-loop-again Inv-loop μ-loop
+loop-again c = (omega arith, first-next _ _ _ (omega arith) (rw (← c .before .before .at1 .ensures, ← c .before .is-finite .ensures) (c .if1 .left)) (c .before .before .before .before .loop .inv .1))
+
+returns-2 : tie.Need-returns-2 Inv-loop μ-loop
+unfolding firstBad
+returns-2 c = found-none _ _ _ (omega arith) (c .before .loop .inv .1)
+
+pub first-bad-spec : {M : Type 1} → statement M
+first-bad-spec =
+    tie.close
+    (tie.spec
+    Inv-loop
+    μ-loop
+    loop-holds
+    at1-requires
+    is-finite-requires
+    returns
+    add-k
+    loop-less
+    loop-again
+    returns-2)

@@ -1,0 +1,62 @@
+-- `leaves::first_bad_lower` meets its contract.
+use mathlib.Core.Path.{_≡_, _∙_, refl, ap}
+use Prim.Native.Nat.{_-_, _≤_}
+use native.Mathlib.Omega.{arith}
+use borrow.Author.Needs.{needs}
+use lib.ListN.{length}
+use Rattle.grid.specs.Loop.{first, first-next}
+use Rattle.leaves.specs.Scan.{lowerBad, placeOf, firstBadLower, after}
+use Rattle.leaves.proofs.Search.{found-here, found-none, after-place, start-place, place-low}
+use Rattle.leaves.proofs.first_bad_lower.Statement.{statement}
+use Rattle.leaves.proofs.first_bad_lower.Tie as tie
+
+abbrev Inv-loop : tie.InvT-loop
+Inv-loop n a p₀ k₀ k-end p k = (k ≤ length a) × (p ≡ placeOf n k) × (first (lowerBad n a) k (length a) ≡ first (lowerBad n a) 0 (length a))
+
+abbrev μ-loop : tie.MeasureT-loop
+μ-loop n a p₀ k₀ k-end p k = length a - k
+
+loop-holds : tie.Need-loop-holds Inv-loop μ-loop
+loop-holds c = (omega arith, start-place (c .before .args .n), refl)
+
+at1-requires : tie.Need-at1-requires Inv-loop μ-loop
+at1-requires c κs = search needs
+
+bad-lower-requires : tie.Need-bad-lower-requires Inv-loop μ-loop
+bad-lower-requires c κs = search needs
+
+returns : tie.Need-returns Inv-loop μ-loop
+unfolding firstBadLower
+returns c = found-here _ _ _ (omega arith) (rw (← c .before .before .before .before .loop .inv .1, ← c .before .before .at1 .ensures, ← c .before .bad-lower .ensures) (c .if1 .taken)) (c .before .before .before .before .loop .inv .2)
+
+after-requires : tie.Need-after-requires Inv-loop μ-loop
+after-requires c κs = omega (arith, place-low (c .before .before .before .before .before .before .args .n) (c .before .before .before .before .loop .k) (c .before .before .before .before .loop .inv .1))
+
+add-k : tie.Need-add-k Inv-loop μ-loop
+add-k c = omega arith
+
+loop-less : tie.Need-loop-less Inv-loop μ-loop
+loop-less c = omega arith
+
+loop-again : tie.Need-loop-again Inv-loop μ-loop
+loop-again c = (omega arith, c .after .ensures ∙ ap (after (c .before .before .before .before .before .before .before .args .n)) (c .before .before .before .before .before .loop .inv .1) ∙ after-place (c .before .before .before .before .before .before .before .args .n) (c .before .before .before .before .before .loop .k), first-next _ _ _ (omega arith) (rw (← c .before .before .before .before .before .loop .inv .1, ← c .before .before .before .at1 .ensures, ← c .before .before .bad-lower .ensures) (c .before .if1 .left)) (c .before .before .before .before .before .loop .inv .2))
+
+returns-2 : tie.Need-returns-2 Inv-loop μ-loop
+unfolding firstBadLower
+returns-2 c = found-none _ _ _ (omega arith) (c .before .loop .inv .2)
+
+pub first-bad-lower-spec : {M : Type 1} → statement M
+first-bad-lower-spec =
+    tie.close
+    (tie.spec
+    Inv-loop
+    μ-loop
+    loop-holds
+    at1-requires
+    bad-lower-requires
+    returns
+    after-requires
+    add-k
+    loop-less
+    loop-again
+    returns-2)

@@ -1,0 +1,319 @@
+// The leaves: the square root of an `f64`, correctly rounded, from its bits and whole numbers; the
+// magnitude, the larger of two, the finite test and hypot; and the first number that is not finite.
+ghost use mathlib.Core.Path.{_≡_};
+ghost use mathlib.Core.Bool.{true};
+ghost use Prim.Native.Nat.{_+_, _*_, _^_, _≤_, _<_};
+ghost use lib.Dec.{T};
+ghost use lib.Ieee.{nan};
+ghost use lib.ListN.{length};
+ghost use lib.Ieee.Positive.{positive};
+ghost use Rattle.leaves.specs.Root.{whole, root};
+ghost use Rattle.leaves.specs.Parts.{sig, exp, even, half, rootBits};
+ghost use Rattle.leaves.specs.Nearest.{Nearest};
+ghost use Rattle.leaves.specs.Leaf.{magnitude, larger, isFinite, hypotOf, hypot};
+ghost use Rattle.leaves.specs.Scan.{isBad, firstBad, badLower, firstBadLower, firstBadOf, firstBadCell, after};
+use grid::at1;
+
+// What a scan found: the index of the first number that is not finite.
+pub enum Bad {
+    At(usize),
+    Nowhere,
+}
+
+// Row i, column j.
+pub struct Place {
+    pub i: usize,
+    pub j: usize,
+}
+
+// The NaN of a root. The literal quotient compiles to the bits 7ff8000000000000, and (x - x) / (x - x) would not.
+pub fn not_a_number() -> f64
+    ensures { λ r. ⌜ r ≡ nan ⌝ }
+{
+    0.0 / 0.0
+}
+
+// The whole root of n * 2^54, by the school method: a turn brings down two binary digits and finds
+// one digit of the root. Fifty-four turns find them all. The digit is a number and not a branch, which
+// a processor would guess wrong every other time.
+fn whole_root(n: u64) -> u64
+    requires { ⌜ n < 2 ^ 54 ⌝ }
+    ensures { λ r. ⌜ r ≡ whole 54 (n * 2 ^ 54) ⌝ }
+{
+    let mut a = n << 10;
+    let mut s: u64 = 0;
+    let mut r: u64 = 0;
+    let mut i: u64 = 0;
+    while i < 54 {
+        let d = r * 4 + (a >> 62);
+        let t = s * 4 + 1;
+        a = a << 2;
+        let digit = (t <= d) as u64;
+        r = d - t * digit;
+        s = s * 2 + digit;
+        i += 1;
+    }
+    s
+}
+
+// The significand of the number with the bit pattern b, in 53 binary digits, and its exponent: the
+// number is m * 2^x / 2^1127. Below 2^52 the pattern is subnormal, and is its own significand.
+fn significand(b: u64) -> u64
+    requires { ⌜ 0 < b ⌝ }
+    ensures { λ r. ⌜ r ≡ sig b ⌝ }
+{
+    if b < 0x10_0000_0000_0000 {
+        return b << (u64::leading_zeros(b) - 11);
+    }
+    0x10_0000_0000_0000 + b % 0x10_0000_0000_0000
+}
+
+fn exponent(b: u64) -> u64
+    requires { ⌜ 0 < b ⌝ }
+    ensures { λ r. ⌜ r ≡ exp b ⌝ }
+{
+    if b < 0x10_0000_0000_0000 {
+        return (64 - u64::leading_zeros(b)) as u64;
+    }
+    b / 0x10_0000_0000_0000 + 52
+}
+
+// m, or twice m where x is even, so that what is left of the exponent is even.
+fn paired(m: u64, x: u64) -> u64
+    requires { ⌜ m < 2 ^ 53 ⌝ }
+    ensures { λ r. ⌜ r ≡ even m x ⌝ }
+{
+    if x % 2 == 0 {
+        return m * 2;
+    }
+    m
+}
+
+// One step of Newton's method towards 1 / root, for half the number.
+fn closer(half: f64, z: f64) -> f64 {
+    z * (1.5 - half * z * z)
+}
+
+// The bit pattern of y, or 0 for a NaN.
+fn pattern(y: f64) -> u64 {
+    if y == y {
+        return f64::to_bits(y);
+    }
+    0
+}
+
+// A guess at the bit pattern of the root. It promises nothing: `is_half` decides whether it is right.
+fn guess(b: u64) -> u64
+    requires { ⌜ b < 0x7ff0_0000_0000_0000 ⌝ }
+{
+    let x = f64::from_bits(b);
+    let half = x * 0.5;
+    let z0 = f64::from_bits(0x5fe6_eb50_c7b5_37a9 - b / 2);
+    let z = closer(half, closer(half, closer(half, z0)));
+    let y = x * z;
+    pattern(y + 0.5 * z * (x - y * y))
+}
+
+// Whether q is the root's significand, in whole numbers: q * q - q < n * 2^52 <= q * q + q. The
+// square is h * 2^52 + l.
+fn is_half(n: u64, q: u64) -> bool
+    requires { ⌜ (n < 2 ^ 54) × (q ≤ 2 ^ 53) ⌝ }
+    ensures { λ r. ⌜ (r ≡ true → q ≡ half n) ⌝ }
+{
+    let a = q / 0x400_0000;
+    let c = q % 0x400_0000;
+    let e = 2 * (a * c);
+    let h = a * a + e / 0x400_0000;
+    let l = e % 0x400_0000 * 0x400_0000 + c * c;
+    if n + 2 <= h + (l + 0x20_0000_0000_0000 - q) / 0x10_0000_0000_0000 {
+        return false;
+    }
+    n <= h + (l + q) / 0x10_0000_0000_0000
+}
+
+// The root's significand: q or one beside it where that is right, else by the school method.
+fn half(n: u64, q: u64) -> u64
+    requires { ⌜ (n < 2 ^ 54) × (0 < q) × (q < 2 ^ 53) ⌝ }
+    ensures { λ r. ⌜ r ≡ half n ⌝ }
+{
+    if is_half(n, q) {
+        return q;
+    }
+    if is_half(n, q + 1) {
+        return q + 1;
+    }
+    if is_half(n, q - 1) {
+        return q - 1;
+    }
+    (whole_root(n) + 1) / 2
+}
+
+// The bit pattern of the root of the number with the bit pattern b, which is finite and above zero.
+fn root_bits(b: u64) -> u64
+    requires { ⌜ 0 < b ⌝ }
+    requires { ⌜ b < 0x7ff0_0000_0000_0000 ⌝ }
+    ensures { λ r. ⌜ r ≡ rootBits b ⌝ }
+{
+    let m = significand(b);
+    let x = exponent(b);
+    let n = paired(m, x);
+    let q = half(n, 0x10_0000_0000_0000 + guess(b) % 0x10_0000_0000_0000);
+    (x + 969) / 2 * 0x10_0000_0000_0000 + q
+}
+
+// The `f64` that is nearest to the root of x.
+pub fn root(x: f64) -> f64
+    ensures value { λ r. ⌜ r ≡ root x ⌝ }
+    ensures nearest { λ r. ⌜ (T (positive x) → Nearest x r) ⌝ }
+{
+    if x != x {
+        return not_a_number();
+    }
+    let b = f64::to_bits(x);
+    if b == 0 {
+        return x;
+    }
+    if b == 0x8000_0000_0000_0000 {
+        return x;
+    }
+    if b > 0x8000_0000_0000_0000 {
+        return not_a_number();
+    }
+    if b >= 0x7ff0_0000_0000_0000 {
+        return x;
+    }
+    f64::from_bits(root_bits(b))
+}
+
+// |x|: the sign bit is cleared, also of -0.0.
+pub fn magnitude(x: f64) -> f64
+    ensures { λ r. ⌜ r ≡ magnitude x ⌝ }
+{
+    if x < 0.0 {
+        return -x;
+    }
+    if x == 0.0 {
+        return 0.0;
+    }
+    x
+}
+
+// b where a is below b, else a: also a where one of them is a NaN.
+pub fn larger(a: f64, b: f64) -> f64
+    ensures { λ r. ⌜ r ≡ larger a b ⌝ }
+{
+    if a < b { b } else { a }
+}
+
+// A finite number less itself is zero; an infinity's or a NaN's difference is a NaN.
+pub fn is_finite(x: f64) -> bool
+    ensures { λ r. ⌜ r ≡ isFinite x ⌝ }
+{
+    x - x == 0.0
+}
+
+// hypot of two magnitudes, the greater first.
+fn hypot_of(a: f64, b: f64) -> f64
+    ensures { λ r. ⌜ r ≡ hypotOf a b ⌝ }
+{
+    if a == 0.0 {
+        0.0
+    } else {
+        let q = b / a;
+        a * root(1.0 + q * q)
+    }
+}
+
+// The length of (x, y): the greater magnitude is taken out, and each step rounds.
+pub fn hypot(x: f64, y: f64) -> f64
+    ensures { λ r. ⌜ r ≡ hypot x y ⌝ }
+{
+    let p = magnitude(x);
+    let q = magnitude(y);
+    if p < q {
+        hypot_of(q, p)
+    } else {
+        hypot_of(p, q)
+    }
+}
+
+pub fn is_bad(b: Bad) -> bool
+    ensures { λ r. ⌜ r ≡ isBad b ⌝ }
+{
+    match b {
+        Bad::At(_) => true,
+        Bad::Nowhere => false,
+    }
+}
+
+// The first number of d that is not finite.
+pub fn first_bad(d: &[f64]) -> Bad
+    ensures { λ r. ⌜ r ≡ firstBad (now (d .entry)) ⌝ }
+{
+    for k in 0..d.len() {
+        if !is_finite(at1(d, k)) {
+            return Bad::At(k);
+        }
+    }
+    Bad::Nowhere
+}
+
+// The place after p, row by row, where n are in a row.
+fn after(n: usize, p: Place) -> Place
+    requires { ⌜ (p .i + 1 < 2 ^ 64) × (p .j + 1 < 2 ^ 64) ⌝ }
+    ensures { λ r. ⌜ r ≡ after n p ⌝ }
+{
+    if p.j + 1 == n {
+        return Place { i: p.i + 1, j: 0 };
+    }
+    Place { i: p.i, j: p.j + 1 }
+}
+
+// The number x at p is on or below the diagonal and is not finite.
+fn bad_lower(p: Place, x: f64) -> bool
+    ensures { λ r. ⌜ r ≡ badLower p x ⌝ }
+{
+    if p.j <= p.i {
+        return !is_finite(x);
+    }
+    false
+}
+
+// The first number that is not finite on and below the diagonal of the matrix a, which stands row by row with n in a row.
+pub fn first_bad_lower(n: usize, a: &[f64]) -> Bad
+    ensures { λ r. ⌜ r ≡ firstBadLower n (now (a .entry)) ⌝ }
+{
+    let mut p = Place { i: 0, j: 0 };
+    for k in 0..a.len() {
+        if bad_lower(p, at1(a, k)) {
+            return Bad::At(k);
+        }
+        p = after(n, p);
+    }
+    Bad::Nowhere
+}
+
+// The first number that is not finite of the matrix v, which stands column by column, counted row by row.
+fn first_bad_of(rows: usize, cols: usize, v: &[f64]) -> Bad
+    requires { ⌜ rows * cols ≤ length (now v) ⌝ }
+    ensures { λ r. ⌜ r ≡ firstBadOf rows cols (now (v .entry)) ⌝ }
+{
+    let mut p = Place { i: 0, j: 0 };
+    for k in 0..rows * cols {
+        if !is_finite(at1(v, p.j * rows + p.i)) {
+            return Bad::At(k);
+        }
+        p = after(cols, p);
+    }
+    Bad::Nowhere
+}
+
+// The same of a matrix with that many columns, and as many rows as fill its length.
+pub fn first_bad_cell(cols: usize, v: &[f64]) -> Bad
+    ensures { λ r. ⌜ r ≡ firstBadCell cols (now (v .entry)) ⌝ }
+{
+    if cols == 0 {
+        return Bad::Nowhere;
+    }
+    first_bad_of(v.len() / cols, cols, v)
+}

@@ -1,0 +1,2 @@
+-- One QL pass of tql2.
+pub mod Pass

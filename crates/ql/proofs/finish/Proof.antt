@@ -1,0 +1,56 @@
+-- `ql::finish` meets its contract.
+use native.Mathlib.Omega.{arith}
+use borrow.Author.Needs.{needs}
+use borrow.Author.Tests.{eq-eqb, ne-eqb}
+use Rattle.ql.specs.Ql.{finished}
+use Rattle.ql.proofs.finish.Statement.{statement}
+use Rattle.ql.proofs.finish.Tie as tie
+
+returns : tie.Need-returns
+unfolding finished
+returns c = λ e. rw (eq-eqb _ _ (c .if1 .taken))
+
+returns-2 : tie.Need-returns-2
+unfolding finished
+returns-2 c = λ e. rw (ne-eqb _ _ (c .before .before .if1 .left), eq-eqb _ _ (c .if2 .taken))
+
+mark2-requires : tie.Need-mark2-requires
+mark2-requires c κs = search needs
+
+same-length : tie.Need-same-length
+same-length c = omega arith
+
+same-length-2 : tie.Need-same-length-2
+same-length-2 c = omega arith
+
+returns-3 : tie.Need-returns-3
+unfolding finished
+returns-3 c = λ e. rw (ne-eqb _ _ (c .before .before .before .before .before .before .if1 .left), ne-eqb _ _ (c .before .before .before .before .if2 .left), ← c .before .mark2 .ensures, c .if3 .taken)
+
+sort-requires : tie.Need-sort-requires
+sort-requires c κs = search needs
+
+same-length-3 : tie.Need-same-length-3
+same-length-3 c = omega arith
+
+same-length-4 : tie.Need-same-length-4
+same-length-4 c = omega arith
+
+returns-4 : tie.Need-returns-4
+unfolding finished
+returns-4 c = λ e. rw (ne-eqb _ _ (c .before .before .before .before .before .before .before .before .before .before .before .before .before .if1 .left), ne-eqb _ _ (c .before .before .before .before .before .before .before .before .before .before .before .if2 .left), ← c .before .before .before .before .before .before .before .before .mark2 .ensures, c .before .before .before .before .before .before .before .if3 .left, ← c .before .before .before .before .sort .ensures)
+
+pub finish-spec : {M : Type 1} → statement M
+finish-spec =
+    tie.close
+    (tie.spec
+    returns
+    returns-2
+    mark2-requires
+    same-length
+    same-length-2
+    returns-3
+    sort-requires
+    same-length-3
+    same-length-4
+    returns-4)

@@ -1,0 +1,122 @@
+-- What stays in bounds: a run's l and m, how far its count can go, where the least of a list is. Laws of the definitions.
+use mathlib.Core.Path.{_≡_, refl, ap, _∙_}
+use mathlib.Core.Bool.{Bool, true, false, cond}
+use Prim.Native.Nat.{ℕ, zero, suc, _+_, _-_, _≤_, _<_, _^_}
+use native.Mathlib.Omega.{arith}
+use borrow.Author.Tests.{ltb-true}
+use lib.Dec.{ltb, eqb}
+use lib.Ieee.{Float, lt}
+use Rattle.grid.specs.Loop.{seek, first, rounds, upto-keeps}
+use Rattle.grid.specs.Real.{Vec, at}
+use Rattle.pass.specs.Pass.{tiny, pass}
+use Rattle.pass.specs.declared.Run.{Run}
+use Rattle.ql.specs.Ql.{State, Ready, split, opened, ended, iterated, released, stopping, closed, stage, turn, better, least}
+use Rattle.ql.specs.declared.Best.{Best}
+
+-- ---- m is below n
+
+seek-le : (p : ℕ → Bool) (a k : ℕ) → seek p a k ≤ a + k
+unfolding seek
+seek-le p a zero = omega arith
+seek-le p a (suc k) = go (p a) (seek-le p (a + 1) k)
+  where
+    go : (b : Bool) → seek p (a + 1) k ≤ a + 1 + k → cond b a (seek p (a + 1) k) ≤ a + suc k
+    go true h = omega arith
+    go false h = omega arith
+
+pub split-below : (n l : ℕ) (tst1 : Float) (e : Vec) → l < n → split n l tst1 e < n
+unfolding split first
+split-below n l tst1 e h = omega (arith, seek-le (tiny e tst1) l (n - 1 - l))
+
+unsettled : (b : Bool) (l m : ℕ) → ltb l m ≡ b → _≡_ {A = ℕ} (cond b 0 1) 0 → l < m
+unsettled true l m t s = ltb-true l m t
+unsettled false l m t s = absurd (omega arith)
+
+pub opened-ready : (n l : ℕ) (r : Run) (d e : Vec) → l < n → r .count + 60 < 2 ^ 64 → Ready n (opened n l r d e)
+unfolding opened
+opened-ready n l r d e h g =
+    record { below = unsettled _ l _ refl; within = split-below n l _ e h; none = refl; room = g }
+
+pub opened-l : (n l : ℕ) (r : Run) (d e : Vec) (q : Run) → q ≡ opened n l r d e → q .l ≡ l
+unfolding opened
+opened-l n l r d e q g = ap (λ (s : Run). s .l) g
+
+-- ---- a pass
+
+pub record Passed (x y : State) : Type 0 where
+  pub l : y .0 .l ≡ x .0 .l
+  pub m : y .0 .m ≡ x .0 .m
+  pub passes : y .0 .passes ≡ x .0 .passes + 1
+  pub count : y .0 .count ≡ x .0 .count + 1
+
+pub one-pass : (n : ℕ) (x y : State) → y ≡ pass n x → Passed x y
+unfolding pass
+one-pass n x y e =
+    record {
+      l = ap (λ (s : State). s .0 .l) e;
+      m = ap (λ (s : State). s .0 .m) e;
+      passes = ap (λ (s : State). s .0 .passes) e;
+      count = ap (λ (s : State). s .0 .count) e;
+    }
+
+-- ---- the passes at one l
+
+pub record Within (limit : ℕ) (x y : State) : Type 0 where
+  pub l : y .0 .l ≡ x .0 .l
+  pub count : y .0 .count ≤ x .0 .count + limit
+
+passes-within : (n limit : ℕ) (x : State) → Within limit x (rounds (pass n) ended limit x)
+unfolding rounds
+passes-within n zero x = record { l = refl; count = omega arith }
+passes-within n (suc k) x = go (ended (pass n x)) (one-pass n x (pass n x) refl) (passes-within n k (pass n x))
+  where
+    go : (b : Bool) → Passed x (pass n x) → Within k (pass n x) (rounds (pass n) ended k (pass n x))
+        → Within (suc k) x (cond b (pass n x) (rounds (pass n) ended k (pass n x)))
+    go true p w = record { l = p .l; count = omega arith }
+    go false p w = record { l = cc; count = omega arith }
+
+pub iterated-within : (n limit : ℕ) (x : State) → Within limit x (iterated n limit x)
+unfolding iterated
+iterated-within n limit x = go (ended x)
+  where
+    go : (b : Bool) → Within limit x (cond b x (rounds (pass n) ended limit x))
+    go true = record { l = refl; count = omega arith }
+    go false = passes-within n limit x
+
+pub iterated-l : (n limit : ℕ) (x y : State) → y ≡ iterated n limit x → y .0 .l ≡ x .0 .l
+iterated-l n limit x y e = ap (λ (s : State). s .0 .l) e ∙ iterated-within n limit x .l
+
+-- ---- one l
+
+closed-count : (x : State) → closed x .0 .count ≡ x .0 .count
+unfolding closed
+closed-count x = go (eqb (x .0 .stop) 1) (eqb (x .0 .stop) 0)
+  where
+    go : (a b : Bool) → cond a (released x) (cond b (stopping (x .0) 9, x .1, x .2, x .3) x) .0 .count ≡ x .0 .count
+    go true b = refl
+    go false true = refl
+    go false false = refl
+
+-- a run that has come to l
+abbrev come : ℕ → ℕ → State → State
+come n l x = (opened n l (x .0) (x .2) (x .3), x .1, x .2, x .3)
+
+pub turn-count : (n limit l : ℕ) (x : State) → turn n limit l x .0 .count ≤ x .0 .count + limit
+unfolding turn stage opened
+turn-count n limit l x = go (ended x)
+  where
+    go : (b : Bool) → cond b x (closed (iterated n limit (come n l x))) .0 .count ≤ x .0 .count + limit
+    go true = omega arith
+    go false = omega (arith, closed-count (iterated n limit (come n l x)), iterated-within n limit (come n l x) .count)
+
+-- ---- the sort
+
+pub least-below : (n i : ℕ) (d : Vec) (b : Best) → i < n → b ≡ least n i d → b .k < n
+unfolding least
+least-below n i d b h e =
+    let first : Best = record { k = i; p = at d i } in
+    rw e (upto-keeps (λ s t. s .k < n) (better d) (better d) (i + 1) n first first (λ j s t a l g. go (lt (at d j) (s .p)) j s l g) h)
+  where
+    go : (c : Bool) (j : ℕ) (s : Best) → j < n → s .k < n → cond c (record { k = j; p = at d j }) s .k < n
+    go true j s l g = l
+    go false j s l g = g

@@ -1,0 +1,44 @@
+-- `qr::column` meets its contract.
+use native.Mathlib.Omega.{arith}
+use borrow.Author.Needs.{needs}
+use Rattle.qr.specs.Qr.{column}
+use Rattle.qr.proofs.column.Statement.{statement}
+use Rattle.qr.proofs.column.Tie as tie
+
+column-of-requires : tie.Need-column-of-requires
+column-of-requires c κs = search needs
+
+passes-requires : tie.Need-passes-requires
+passes-requires c κs = search needs
+
+norm-requires : tie.Need-norm-requires
+norm-requires c κs = search needs
+
+finish-requires : tie.Need-finish-requires
+finish-requires c κs = search needs
+
+same-length : tie.Need-same-length
+same-length c = omega arith
+
+same-length-2 : tie.Need-same-length-2
+same-length-2 c = omega arith
+
+same-length-3 : tie.Need-same-length-3
+same-length-3 c = omega arith
+
+returns : tie.Need-returns
+unfolding column
+returns c = rw (← c .before .before .before .before .before .before .before .before .before .before .before .before .before .before .before .before .before .before .before .column-of .ensures, ← c .before .before .before .before .before .before .before .before .before .before .before .before .before .passes .ensures, ← c .before .before .before .before .before .before .before .norm .ensures, ← c .before .before .before .before .finish .ensures)
+
+pub column-spec : {M : Type 1} → statement M
+column-spec =
+    tie.close
+    (tie.spec
+    column-of-requires
+    passes-requires
+    norm-requires
+    finish-requires
+    same-length
+    same-length-2
+    same-length-3
+    returns)

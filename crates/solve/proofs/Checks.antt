@@ -1,0 +1,117 @@
+-- What the checks of `solve` and `pseudo_inverse` leave: where they refuse nothing, sizes and lengths are right.
+use mathlib.Core.Path.{_≡_, refl, sym, ap, _∙_}
+use mathlib.Core.Bool.{Bool, true, false, cond, not, _||_}
+use Prim.Native.Nat.{ℕ, _+_, _*_, _<_, _≤_}
+use native.Mathlib.Omega.{arith}
+use borrow.Author.Tests.{ltb-true, ltb-false, le-ltb, eqb-true}
+use lib.Dec.{ltb, eqb}
+use lib.ListN.{length}
+use Rattle.grid.specs.Real.{Vec}
+use Rattle.grid.specs.Loop.{first}
+use Rattle.answers.specs.Answers.{refused, pass, lengths, least, present, decompositionLength, least-le, product-le}
+use Rattle.answers.specs.declared.Answer.{Answer}
+use Rattle.leaves.specs.Scan.{notFinite, firstBad}
+use Rattle.leaves.specs.declared.Bad.{Bad}
+use Rattle.leaves.specs.declared.Bad.the-variants.{At, Nowhere}
+use Rattle.solve.specs.Solve.{parts, solveChecks, inverseChecks, Sized}
+
+-- the answer is that of the checks
+pub told : {r s : Answer} → r ≡ s → r .answer ≡ 0 → s .answer ≡ 0
+told e h = ap (λ (a : Answer). a .answer) (sym e) ∙ h
+
+-- `parts` by its three tests
+abbrev chain : Bool → Bool → Bool → Answer → Answer
+chain a b c later = cond a (refused 1 0) (cond b (refused 3 0) (cond c (refused 4 0) later))
+
+-- where the first three refuse, the later checks do not count
+pub stops : (m n u vt : ℕ) (later : Answer) {r : Answer} → r ≡ parts m n u vt pass → (r .answer ≡ 0 → ⊥) → r ≡ parts m n u vt later
+stops m n u vt later e h = e ∙ go (ltb 256 m || ltb 256 n) (eqb u 0) (eqb vt 0) (λ z. h (ap (λ (a : Answer). a .answer) e ∙ z))
+  where
+    go : (a b c : Bool) → (chain a b c pass .answer ≡ 0 → ⊥) → chain a b c pass ≡ chain a b c later
+    go true b c h = refl
+    go false true c h = refl
+    go false false true h = refl
+    go false false false h = absurd (h refl)
+
+-- where they refuse nothing
+pub record There (m n u vt : ℕ) : Type 0 where
+  pub few : m ≤ 256
+  pub narrow : n ≤ 256
+  pub has-u : eqb u 0 ≡ false
+  pub has-vt : eqb vt 0 ≡ false
+
+pub there : (m n u vt : ℕ) (later : Answer) {r : Answer} → r ≡ parts m n u vt later → r .answer ≡ 0 → There m n u vt
+there m n u vt later e h = go (ltb 256 m) refl (ltb 256 n) refl (eqb u 0) refl (eqb vt 0) refl (told e h)
+  where
+    go : (a : Bool) → ltb 256 m ≡ a → (b : Bool) → ltb 256 n ≡ b → (c : Bool) → eqb u 0 ≡ c → (d : Bool) → eqb vt 0 ≡ d
+        → chain (a || b) c d later .answer ≡ 0 → There m n u vt
+    go true e b f c g d k h = absurd (omega arith)
+    go false e true f c g d k h = absurd (omega arith)
+    go false e false f true g d k h = absurd (omega arith)
+    go false e false f false g true k h = absurd (omega arith)
+    go false e false f false g false k h = record { few = ltb-false 256 m e; narrow = ltb-false 256 n f; has-u = g; has-vt = k }
+
+-- and then the later checks decide
+pub goes : (m n u vt : ℕ) (later : Answer) → There m n u vt → later ≡ parts m n u vt later
+goes m n u vt later t = rw (le-ltb 256 m (t .few), le-ltb 256 n (t .narrow), t .has-u, t .has-vt)
+
+two-right : (a wa b wb : ℕ) → lengths a wa b wb 0 0 .answer ≡ 0 → (a ≡ wa) × (b ≡ wb)
+unfolding lengths
+two-right a wa b wb = go (eqb a wa) refl (eqb b wb) refl
+  where
+    go : (p : Bool) → eqb a wa ≡ p → (q : Bool) → eqb b wb ≡ q → cond p (cond q pass (refused 6 1)) (refused 6 0) .answer ≡ 0 → (a ≡ wa) × (b ≡ wb)
+    go true e true f h = (eqb-true a wa e, eqb-true b wb f)
+    go true e false f h = absurd (omega arith)
+    go false e q f h = absurd (omega arith)
+
+whole : (m n u vt l : ℕ) → There m n u vt → l ≡ decompositionLength m n u vt → Sized m n l
+unfolding decompositionLength present
+whole m n u vt l t e = record { few = t .few; narrow = t .narrow; whole = rw (t .has-u, t .has-vt) at e }
+
+pub solve-sized : (m n u vt d b x : ℕ) → solveChecks m n u vt d b x .answer ≡ 0 → Sized m n d × (b ≡ m) × (x ≡ n)
+unfolding solveChecks
+solve-sized m n u vt d b x h = go (eqb b m) refl (told (sym (goes m n u vt later t)) h)
+  where
+    later : Answer
+    later = cond (not (eqb b m)) (refused 5 0) (lengths d (decompositionLength m n u vt) x n 0 0)
+
+    t : There m n u vt
+    t = there m n u vt later refl h
+
+    go : (p : Bool) → eqb b m ≡ p → cond (not p) (refused 5 0) (lengths d (decompositionLength m n u vt) x n 0 0) .answer ≡ 0 → Sized m n d × (b ≡ m) × (x ≡ n)
+    go true e k =
+        let w = two-right d (decompositionLength m n u vt) x n k in
+        (whole m n u vt d t (w .0), eqb-true b m e, w .1)
+    go false e k = absurd (omega arith)
+
+pub inverse-sized : (m n u vt d x : ℕ) → inverseChecks m n u vt d x .answer ≡ 0 → Sized m n d × (x ≡ n * m)
+unfolding inverseChecks
+inverse-sized m n u vt d x h =
+    let later = lengths d (decompositionLength m n u vt) x (n * m) 0 0 in
+    let t = there m n u vt later refl h in
+    let w = two-right d (decompositionLength m n u vt) x (n * m) (told (sym (goes m n u vt later t)) h) in
+    (whole m n u vt d t (w .0), w .1)
+
+-- a number that is not finite is within the list
+pub bad-below : (d : Vec) (i : ℕ) → firstBad d ≡ At i → i < length d
+unfolding firstBad
+bad-below d i = go (first (notFinite d) 0 (length d)) (ltb (first (notFinite d) 0 (length d)) (length d)) refl
+  where
+    go : (k : ℕ) (p : Bool) → ltb k (length d) ≡ p → cond p (At k) Nowhere ≡ At i → i < length d
+    go k true e h =
+        let s : k ≡ i = cc in
+        rw s at (ltb-true k (length d) e)
+    go k false e h = absurd (let z : _≡_ {A = ℕ} 0 1 = cc in omega arith)
+
+-- ---- the parts of a decomposition of length l
+
+pub record Split (m n l r : ℕ) : Type 0 where
+  pub small : r ≤ 256
+  pub u-small : m * r ≤ 65536
+  pub vt-small : r * n ≤ 65536
+  pub all : l ≡ r + m * r + r * n
+
+pub split : (m n l r : ℕ) → Sized m n l → r ≡ least m n → Split m n l r
+split m n l r s e =
+    let k : r ≤ 256 = rw e (least-le m n 256 (s .few) (s .narrow)) in
+    record { small = k; u-small = product-le m r (s .few) k; vt-small = product-le r n k (s .narrow); all = rw e (s .whole) }

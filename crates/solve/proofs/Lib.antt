@@ -1,0 +1,3 @@
+-- What the checks of `solve` and `pseudo_inverse` leave, and the sums.
+pub mod Checks
+pub mod Sums

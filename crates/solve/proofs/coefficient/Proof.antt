@@ -1,0 +1,15 @@
+-- `solve::coefficient` meets its contract.
+use Rattle.solve.specs.Solve.{coefficient}
+use Rattle.solve.proofs.coefficient.Statement.{statement}
+use Rattle.solve.proofs.coefficient.Tie as tie
+
+returns : tie.Need-returns
+unfolding coefficient
+returns c = rw (c .if1 .taken)
+
+returns-2 : tie.Need-returns-2
+unfolding coefficient
+returns-2 c = rw (c .if1 .left)
+
+pub coefficient-spec : {M : Type 1} → statement M
+coefficient-spec = tie.close (tie.spec returns returns-2)

@@ -1,0 +1,45 @@
+-- `solve::marked` meets its contract.
+use native.Mathlib.Omega.{arith}
+use borrow.Author.Needs.{needs}
+use Rattle.solve.specs.Solve.{marked}
+use Rattle.solve.proofs.marked.Statement.{statement}
+use Rattle.solve.proofs.marked.Tie as tie
+
+first-bad-requires : tie.Need-first-bad-requires
+first-bad-requires c κs = search needs
+
+is-bad-requires : tie.Need-is-bad-requires
+is-bad-requires c κs = search needs
+
+refuse-requires : tie.Need-refuse-requires
+refuse-requires c κs = search needs
+
+same-length : tie.Need-same-length
+same-length c = omega arith
+
+returns : tie.Need-returns
+unfolding marked
+returns c = rw (← c .before .before .before .before .before .before .first-bad .ensures, ← c .before .before .before .before .before .is-bad .ensures, c .before .before .before .before .if1 .taken) (c .before .before .refuse .ensures)
+
+refusal-requires : tie.Need-refusal-requires
+refusal-requires c κs = search needs
+
+same-length-2 : tie.Need-same-length-2
+same-length-2 c = omega arith
+
+returns-2 : tie.Need-returns-2
+unfolding marked
+returns-2 c = rw (← c .before .before .before .first-bad .ensures, ← c .before .before .is-bad .ensures, c .before .if1 .left, c .refusal .ensures)
+
+pub marked-spec : {M : Type 1} → statement M
+marked-spec =
+    tie.close
+    (tie.spec
+    first-bad-requires
+    is-bad-requires
+    refuse-requires
+    same-length
+    returns
+    refusal-requires
+    same-length-2
+    returns-2)

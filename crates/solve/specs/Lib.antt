@@ -1,0 +1,3 @@
+-- What `solve` and `pseudo_inverse` come back with.
+pub mod Solve
+pub mod One

@@ -1,0 +1,142 @@
+-- `Svd::solve` and `Svd::pseudo_inverse`, operation for operation, with the checks in the scope's order. A decomposition is r values, r the smaller of m
+-- and n, then U row by row (m by r), then V^T row by row (r by n).
+use mathlib.Core.Path.{_≡_}
+use mathlib.Core.Bool.{Bool, cond, not, _||_}
+use Prim.Native.Nat.{ℕ, _+_, _*_, _≤_}
+use lib.Dec.{ltb, eqb}
+use lib.Ieee.{Float, lt}
+use lib.ListN.{length, take, set}
+use Rattle.grid.specs.Loop.{upto}
+use Rattle.grid.specs.Real.{Vec, zero64, one64, zeros, at, _⊕_, _⊗_, _⊘_}
+use Rattle.grid.specs.Cell.{entry}
+use Rattle.grid.specs.Table.{table, rows, part}
+use Rattle.answers.specs.Answers.{refused, done, passed, lengths, least, decompositionLength, emptied}
+use Rattle.answers.specs.declared.Answer.{Answer}
+use Rattle.leaves.specs.Scan.{isBad, firstBad}
+use Rattle.leaves.specs.declared.Bad.{Bad}
+use Rattle.leaves.specs.declared.Bad.the-variants.{At, Nowhere}
+
+-- ---- the parts of a decomposition
+
+abbrev pub valuesOf : ℕ → Vec → Vec
+valuesOf r d = take r d
+
+abbrev pub uOf : ℕ → ℕ → Vec → Vec
+uOf m r d = part r (r + m * r) d
+
+abbrev pub vtOf : ℕ → ℕ → Vec → Vec
+vtOf m r d = part (r + m * r) (length d) d
+
+-- ---- solve: x = V * c, c = sigma^+ * U^T * b
+
+-- column j of a, which has that many columns, by v
+abbrev pub columnStep : ℕ → Vec → Vec → ℕ → ℕ → Float → Float
+columnStep cols a v j i acc = acc ⊕ entry a cols i j ⊗ at v i
+
+unfoldable pub columnSum : ℕ → ℕ → Vec → Vec → ℕ → Float
+columnSum rows cols a v j = upto (columnStep cols a v j) 0 rows zero64
+
+-- c[k] for the value sv: one that is not above the tolerance counts as zero
+unfoldable pub coefficient : Float → Float → Float → Float
+coefficient tol sv acc = cond (lt tol sv) (acc ⊘ sv) zero64
+
+unfoldable pub solution : ℕ → ℕ → Float → Vec → Vec → Vec
+solution m n tol d b =
+    let r = least m n in
+    let c = table (λ k. coefficient tol (at (valuesOf r d) k) (columnSum m r (uOf m r d) b k)) r in
+    table (columnSum r n (vtOf m r d) c) n
+
+-- the sums are worked out side by side: row i by v[i] is added to all of them
+abbrev pub addStep : ℕ → Vec → ℕ → Float → ℕ → Vec → Vec
+addStep cols a i by j acc = set acc j (at acc j ⊕ entry a cols i j ⊗ by)
+
+abbrev pub coefficientStep : Float → Vec → ℕ → Vec → Vec
+coefficientStep tol s k c = set c k (coefficient tol (at s k) (at c k))
+
+-- ---- pseudo_inverse: A^+ = V * sigma^+ * U^T
+
+-- sinv[k] for the value sv
+unfoldable pub inverse : Float → Float → Float
+inverse tol sv = cond (lt tol sv) (one64 ⊘ sv) zero64
+
+-- V^T by the inverse value first, then by U
+abbrev pub pinvStep : ℕ → ℕ → Float → Vec → Vec → Vec → ℕ → ℕ → ℕ → Float → Float
+pinvStep r n tol s u vt j i k acc = acc ⊕ entry vt n k j ⊗ inverse tol (at s k) ⊗ entry u r i k
+
+-- A^+[j, i]
+unfoldable pub pinvSum : ℕ → ℕ → Float → Vec → Vec → Vec → ℕ → ℕ → Float
+pinvSum r n tol s u vt j i = upto (pinvStep r n tol s u vt j i) 0 r zero64
+
+abbrev pub pinvRow : ℕ → ℕ → ℕ → Float → Vec → Vec → Vec → ℕ → Vec
+pinvRow m r n tol s u vt j = table (pinvSum r n tol s u vt j) m
+
+unfoldable pub inverted : ℕ → ℕ → Float → Vec → Vec
+inverted m n tol d =
+    let r = least m n in
+    rows (pinvRow m r n tol (valuesOf r d) (uOf m r d) (vtOf m r d)) n
+
+-- the same with what is by V^T worked out once for row j: w[k] = v_t[k, j] * sinv[k]
+abbrev pub product : ℕ → Float → Vec → Vec → ℕ → ℕ → Float
+product n tol s vt j k = entry vt n k j ⊗ inverse tol (at s k)
+
+abbrev pub dotStep : ℕ → Vec → Vec → ℕ → ℕ → Float → Float
+dotStep r w u i k acc = acc ⊕ at w k ⊗ entry u r i k
+
+unfoldable pub dot : ℕ → Vec → Vec → ℕ → Float
+dot r w u i = upto (dotStep r w u i) 0 r zero64
+
+-- ---- the checks, on lengths
+
+-- 1, 3 and 4, or else what the later checks say
+abbrev pub parts : ℕ → ℕ → ℕ → ℕ → Answer → Answer
+parts m n u vt later =
+    cond (ltb 256 m || ltb 256 n) (refused 1 0)
+    (cond (eqb u 0) (refused 3 0)
+    (cond (eqb vt 0) (refused 4 0)
+    later))
+
+unfoldable pub solveChecks : ℕ → ℕ → ℕ → ℕ → ℕ → ℕ → ℕ → Answer
+solveChecks m n u vt d b x =
+    parts m n u vt
+    (cond (not (eqb b m)) (refused 5 0)
+    (lengths d (decompositionLength m n u vt) x n 0 0))
+
+unfoldable pub inverseChecks : ℕ → ℕ → ℕ → ℕ → ℕ → ℕ → Answer
+inverseChecks m n u vt d x =
+    parts m n u vt
+    (lengths d (decompositionLength m n u vt) x (n * m) 0 0)
+
+-- what the checks leave: m and n are small, and the decomposition, of length l, is whole
+pub record Sized (m n l : ℕ) : Type 0 where
+  pub few : m ≤ 256
+  pub narrow : n ≤ 256
+  pub whole : l ≡ least m n + m * least m n + least m n * n
+
+-- ---- the outcomes: the three numbers, and the answer array x afterwards
+
+-- 7 with the number's index, behind so many others, or else the rest
+abbrev pub unlessBad : Bad → ℕ → Vec → Answer × Vec → Answer × Vec
+unlessBad (At i) before x rest = emptied 7 (before + i) x
+unlessBad Nowhere before x rest = rest
+
+-- the decomposition d, then the right side b
+abbrev pub unlessEither : Vec → Vec → Vec → Answer × Vec → Answer × Vec
+unlessEither d b x rest = unlessBad (firstBad d) 0 x (unlessBad (firstBad b) (length d) x rest)
+
+-- mark 2
+unfoldable pub marked : Vec → Answer × Vec
+marked x = cond (isBad (firstBad x)) (emptied 8 2 x) (done 0, x)
+
+unfoldable pub solve : ℕ → ℕ → ℕ → ℕ → Float → Vec → Vec → Vec → Answer × Vec
+solve m n u vt tol d b x =
+    let check = solveChecks m n u vt (length d) (length b) (length x) in
+    cond (passed check)
+    (unlessEither d b x (marked (solution m n tol d b)))
+    (check, x)
+
+unfoldable pub pseudoInverse : ℕ → ℕ → ℕ → ℕ → Float → Vec → Vec → Answer × Vec
+pseudoInverse m n u vt tol d x =
+    let check = inverseChecks m n u vt (length d) (length x) in
+    cond (passed check)
+    (unlessBad (firstBad d) 0 x (marked (inverted m n tol d)))
+    (check, x)

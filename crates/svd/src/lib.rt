@@ -1,0 +1,334 @@
+// The svd of a matrix: the checks, the work array, the sweeps, the sorted result, and the row of V^T.
+ghost use mathlib.Core.Path.{_≡_};
+ghost use mathlib.Core.Bool.{cond};
+ghost use Prim.Native.Nat.{ℕ, _+_, _*_, _≤_, _<_};
+ghost use lib.Dec.{eqb};
+ghost use lib.ListN.{length};
+ghost use Rattle.grid.specs.Real.{at};
+ghost use Rattle.answers.specs.Answers.{least};
+ghost use Rattle.jacobi.specs.Jacobi.{Sized};
+ghost use Rattle.svd.specs.Order.{ahead, one, rank, noted};
+ghost use Rattle.svd.specs.Svd.{longest, workLength, source, columnLoaded, matrixLoaded, eyed, columnOut, factorOut, offset, sortedOut, checks, ran, svd};
+ghost use Rattle.svd.specs.Known.{Checked, Out};
+ghost use Rattle.svd.specs.Row.{rowSpan, partOf, Within};
+use answers::Answer;
+use answers::decomposition_length;
+use answers::least;
+use answers::lengths;
+use answers::limit_good;
+use answers::present;
+use answers::refusal7;
+use grid::at1;
+use grid::entry;
+use grid::fill;
+use grid::put1;
+use jacobi::jacobi;
+use leaves::first_bad;
+
+// L, the larger of m and n.
+fn longest(m: usize, n: usize) -> usize
+    ensures { λ r. ⌜ r ≡ longest m n ⌝ }
+{
+    if m < n { n } else { m }
+}
+
+fn work_length(m: usize, n: usize) -> usize
+    requires { ⌜ (m ≤ 256) × (n ≤ 256) ⌝ }
+    ensures { λ r. ⌜ r ≡ workLength m n ⌝ }
+{
+    let r = least(m, n);
+    longest(m, n) * r + r * r + r
+}
+
+// Refusals 1, 2 and 6, for arrays of a, b and c numbers.
+fn checks(
+    m: usize,
+    n: usize,
+    want_u: usize,
+    want_vt: usize,
+    limit: usize,
+    a: usize,
+    b: usize,
+    c: usize,
+) -> Answer
+    ensures { λ r. ⌜ r ≡ checks m n «want_u» «want_vt» limit a b c ⌝ }
+{
+    if m > 256 {
+        return Answer {
+            answer: 1,
+            place: 0,
+            count: 0,
+        };
+    }
+    if n > 256 {
+        return Answer {
+            answer: 1,
+            place: 0,
+            count: 0,
+        };
+    }
+    if limit_good(limit) {
+        let result = decomposition_length(m, n, want_u, want_vt);
+        return lengths(a, m * n, b, work_length(m, n), c, result);
+    }
+    Answer {
+        answer: 2,
+        place: 0,
+        count: 0,
+    }
+}
+
+// Row i, column j of the matrix, or of its transpose where m < n.
+fn source(m: usize, n: usize, a: &[f64], i: usize, j: usize) -> f64
+    requires { ⌜ (i < longest m n) × (j < least m n) × (length (now a) ≡ m * n) ⌝ }
+    ensures { λ x. ⌜ x ≡ source m n (now (a .entry)) i j ⌝ }
+{
+    if m < n {
+        return entry(a, m, n, j, i);
+    }
+    entry(a, m, n, i, j)
+}
+
+fn load_column(m: usize, n: usize, rows: usize, a: &[f64], j: usize, w: &mut [f64])
+    requires { ⌜ (rows ≡ longest m n) × (j < least m n) × (length (now a) ≡ m * n) × (j * rows + rows ≤ length (now w)) ⌝ }
+    ensures { λ _. ⌜ now (w .exit) ≡ columnLoaded m n rows (now (a .entry)) j (now (w .entry)) ⌝ }
+{
+    for i in 0..rows {
+        put1(w, j * rows + i, source(m, n, a, i, j));
+    }
+}
+
+fn load_matrix(m: usize, n: usize, rows: usize, cols: usize, a: &[f64], w: &mut [f64])
+    requires { ⌜ (rows ≡ longest m n) × (cols ≡ least m n) × (length (now a) ≡ m * n) × Sized rows cols (now w) ⌝ }
+    ensures { λ _. ⌜ now (w .exit) ≡ matrixLoaded m n rows cols (now (a .entry)) (now (w .entry)) ⌝ }
+{
+    for j in 0..cols {
+        load_column(m, n, rows, a, j, w);
+    }
+}
+
+// The rotations start as the identity.
+fn load_eye(rows: usize, cols: usize, w: &mut [f64])
+    requires { ⌜ Sized rows cols (now w) ⌝ }
+    ensures { λ _. ⌜ now (w .exit) ≡ eyed rows cols (now (w .entry)) ⌝ }
+{
+    for j in 0..cols {
+        put1(w, rows * cols + j * cols + j, 1.0);
+    }
+}
+
+// Whether column j comes before column k: its value is the greater, or neither is and j is the lower.
+fn ahead(w: &[f64], from: usize, j: usize, k: usize) -> usize
+    requires { ⌜ (from + j < length (now w)) × (from + k < length (now w)) ⌝ }
+    ensures { λ n. ⌜ n ≡ one (ahead (λ (i : ℕ). at (now (w .entry)) (from + i)) j k) ⌝ }
+{
+    let sj = at1(w, from + j);
+    let sk = at1(w, from + k);
+    if sk < sj {
+        return 1;
+    }
+    if sj < sk {
+        return 0;
+    }
+    if j < k { 1 } else { 0 }
+}
+
+// The place of column k: how many come before it.
+fn rank(w: &[f64], from: usize, r: usize, k: usize) -> usize
+    requires { ⌜ (k < r) × (from + r ≤ length (now w)) ⌝ }
+    ensures { λ n. ⌜ n ≡ rank (λ (i : ℕ). at (now (w .entry)) (from + i)) r k ⌝ }
+{
+    let mut n: usize = 0;
+    for j in 0..r {
+        n = n + ahead(w, from, j, k);
+    }
+    n
+}
+
+// Notes each column at its place.
+fn note(w: &[f64], from: usize, r: usize, o: &mut [usize; 256])
+    requires { ⌜ (r ≤ 256) × (from + r ≤ length (now w)) ⌝ }
+    ensures { λ _. ⌜ now (o .exit) ≡ noted (λ (i : ℕ). at (now (w .entry)) (from + i)) r (now (o .entry)) ⌝ }
+{
+    for k in 0..r {
+        let p = rank(w, from, r, k);
+        o[p] = k;
+    }
+}
+
+// So many numbers of w go to every down-th number of the result.
+fn column_out(w: &[f64], from: usize, rows: usize, to: usize, down: usize, res: &mut [f64])
+    requires { ⌜ (from + rows ≤ length (now w)) × ((i : ℕ) → i < rows → to + i * down < length (now res)) ⌝ }
+    ensures { λ _. ⌜ now (res .exit) ≡ columnOut from rows to down (now (w .entry)) (now (res .entry)) ⌝ }
+{
+    for i in 0..rows {
+        put1(res, to + i * down, at1(w, from + i));
+    }
+}
+
+// The columns of a factor in their order.
+fn factor_out(
+    cols: usize,
+    w: &[f64],
+    from: usize,
+    rows: usize,
+    to: usize,
+    down: usize,
+    across: usize,
+    o: &[usize; 256],
+    res: &mut [f64],
+)
+    requires { ⌜ Out cols from rows to down across (now w) (now o) (now res) ⌝ }
+    ensures { λ _. ⌜ now (res .exit) ≡ factorOut cols from rows to down across (now (w .entry)) (now (o .entry)) (now (res .entry)) ⌝ }
+{
+    for k in 0..cols {
+        let j = o[k];
+        column_out(w, from + j * rows, rows, to + k * across, down, res);
+    }
+}
+
+fn offset(b: bool, k: usize) -> usize
+    ensures { λ r. ⌜ r ≡ offset b k ⌝ }
+{
+    if b { k } else { 0 }
+}
+
+// The result where the run is done: the factor with L rows stands first in w.
+fn sorted_out(m: usize, n: usize, want_u: usize, want_vt: usize, w: &[f64], res: &mut [f64])
+    requires { ⌜ Checked m n «want_u» «want_vt» (now w) (now res) ⌝ }
+    ensures { λ _. ⌜ now (res .exit) ≡ sortedOut m n «want_u» «want_vt» (now (w .entry)) (now (res .entry)) ⌝ }
+{
+    let r = least(m, n);
+    let second = longest(m, n) * r;
+    let values = second + r * r;
+    let mut o = [0usize; 256];
+    note(w, values, r, &mut o);
+    factor_out(r, w, values, 1, 0, 1, 1, &o, res);
+    let u_at = offset(m < n, second);
+    factor_out(present(want_u, r), w, u_at, m, r, r, 1, &o, res);
+    let v_at = offset(m >= n, second);
+    let to = r + present(want_u, m * r);
+    factor_out(present(want_vt, r), w, v_at, n, to, 1, n, &o, res);
+}
+
+fn hand_over(
+    answer: usize,
+    m: usize,
+    n: usize,
+    want_u: usize,
+    want_vt: usize,
+    w: &[f64],
+    res: &mut [f64],
+)
+    requires { ⌜ Checked m n «want_u» «want_vt» (now w) (now res) ⌝ }
+    ensures { λ _. ⌜ now (res .exit) ≡ cond (eqb answer 0) (sortedOut m n «want_u» «want_vt» (now (w .entry)) (now (res .entry))) (now (res .entry)) ⌝ }
+{
+    if answer == 0 {
+        sorted_out(m, n, want_u, want_vt, w, res);
+    }
+}
+
+// The run, over arrays that are all +0.0.
+fn run(
+    m: usize,
+    n: usize,
+    want_u: usize,
+    want_vt: usize,
+    limit: usize,
+    a: &[f64],
+    w: &mut [f64],
+    res: &mut [f64],
+) -> Answer
+    requires { ⌜ (limit ≤ 60) × (length (now a) ≡ m * n) × Checked m n «want_u» «want_vt» (now w) (now res) ⌝ }
+    ensures { λ r. ⌜ (r, now (w .exit), now (res .exit)) ≡ ran m n «want_u» «want_vt» limit (now (a .entry)) (now (w .entry)) (now (res .entry)) ⌝ }
+{
+    let rows = longest(m, n);
+    let cols = least(m, n);
+    load_matrix(m, n, rows, cols, a, w);
+    load_eye(rows, cols, w);
+    let x = jacobi(rows, cols, limit, w);
+    hand_over(x.answer, m, n, want_u, want_vt, w, res);
+    fill(w);
+    x
+}
+
+pub fn svd(
+    m: usize,
+    n: usize,
+    want_u: usize,
+    want_vt: usize,
+    limit: usize,
+    matrix: &[f64],
+    work: &mut [f64],
+    result: &mut [f64],
+) -> Answer
+    ensures { λ r. ⌜ (r, now (work .exit), now (result .exit)) ≡ svd m n «want_u» «want_vt» limit (now (matrix .entry)) (now (work .entry)) (now (result .entry)) ⌝ }
+{
+    let c = checks(
+        m,
+        n,
+        want_u,
+        want_vt,
+        limit,
+        matrix.len(),
+        work.len(),
+        result.len(),
+    );
+    if c.answer != 0 {
+        return c;
+    }
+    fill(work);
+    fill(result);
+    let b = refusal7(first_bad(matrix));
+    if b.answer != 0 {
+        return b;
+    }
+    run(m, n, want_u, want_vt, limit, matrix, work, result)
+}
+
+// Where a row of V^T stands in a decomposition.
+pub enum Span {
+    At(usize, usize),
+    Missing,
+}
+
+fn row_span(len: usize, m: usize, n: usize, has_u: usize, has_vt: usize, j: usize) -> Span
+    ensures { λ r. ⌜ r ≡ rowSpan len m n «has_u» «has_vt» j ⌝ }
+    ensures within { λ r. ⌜ Within len r ⌝ }
+{
+    if m > 256 {
+        return Span::Missing;
+    }
+    if n > 256 {
+        return Span::Missing;
+    }
+    if has_vt == 0 {
+        return Span::Missing;
+    }
+    let r = least(m, n);
+    if j >= r {
+        return Span::Missing;
+    }
+    if len != decomposition_length(m, n, has_u, has_vt) {
+        return Span::Missing;
+    }
+    let a = r + present(has_u, m * r) + j * n;
+    Span::At(a, a + n)
+}
+
+// Row j of V^T: that part of the decomposition.
+pub fn vt_row<'a>(
+    m: usize,
+    n: usize,
+    has_u: usize,
+    has_vt: usize,
+    j: usize,
+    decomposition: &'a [f64],
+) -> &'a [f64]
+    ensures { λ r. ⌜ now r ≡ partOf (now (decomposition .entry)) (rowSpan (length (now (decomposition .entry))) m n «has_u» «has_vt» j) ⌝ }
+{
+    let Span::At(a, e) = row_span(decomposition.len(), m, n, has_u, has_vt, j) else {
+        return &decomposition[0..0];
+    };
+    &decomposition[a..e]
+}

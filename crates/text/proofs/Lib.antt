@@ -1,0 +1,2 @@
+-- 01's example and some bad texts, computed.
+pub mod Worked

@@ -1,0 +1,202 @@
+/*
+ * What a codec does with Crewelmarsh: samples of a few bands, their covariance, its values and vectors,
+ * the forward transform, the inverse, and the largest difference to the samples. Then an svd and a
+ * pseudo-inverse of a small matrix.
+ */
+#include <stdio.h>
+#include "crewelmarsh.h"
+
+enum { BANDS = 5, SAMPLES = 1024 };
+enum { ROWS = 3, COLUMNS = 2, SMALLER = 2 };
+
+static double samples[SAMPLES][BANDS], centred[SAMPLES][BANDS];
+static double coded[SAMPLES][BANDS], decoded[SAMPLES][BANDS];
+static double mean[BANDS], covariance[BANDS * BANDS];
+
+/* The arrays of symmetric_eigen: the values, then the vectors as columns, row by row. */
+static double work[BANDS];
+static double result[BANDS + BANDS * BANDS];
+static const double *const values = result;
+static const double *const vectors = result + BANDS;
+
+/* Whether a call was done; if not, says so as a log would. */
+static int done(const char *call, struct crewelmarsh_answer a)
+{
+    if (a.answer == CREWELMARSH_DONE)
+        return 1;
+    printf("%s: answer %zu (%s), place %zu, count %zu\n", call, a.answer, crewelmarsh_text(a.answer), a.place,
+           a.count);
+    return 0;
+}
+
+/* Whole numbers 0 to 99, the same in every run. */
+static unsigned next_number(void)
+{
+    static unsigned state = 1;
+    state = (state * 1103515245u + 12345u) & 0x7fffffffu;
+    return (state >> 16) % 100;
+}
+
+/* Samples of bands that are alike: one scene, brighter from band to band, and some noise. */
+static void make_samples(void)
+{
+    int s, b;
+    for (s = 0; s < SAMPLES; s++) {
+        double scene = next_number() * 8.0;
+        for (b = 0; b < BANDS; b++)
+            samples[s][b] = 100 + scene * (b + 1) / 2 + next_number() / 4;
+    }
+}
+
+static void centre(void)
+{
+    int s, b;
+    for (b = 0; b < BANDS; b++) {
+        mean[b] = 0;
+        for (s = 0; s < SAMPLES; s++)
+            mean[b] += samples[s][b];
+        mean[b] /= SAMPLES;
+        for (s = 0; s < SAMPLES; s++)
+            centred[s][b] = samples[s][b] - mean[b];
+    }
+}
+
+static double covariance_of(int x, int y)
+{
+    double sum = 0;
+    int s;
+    for (s = 0; s < SAMPLES; s++)
+        sum += centred[s][x] * centred[s][y];
+    return sum / SAMPLES;
+}
+
+static void fill_covariance(void)
+{
+    int x, y;
+    for (x = 0; x < BANDS; x++)
+        for (y = 0; y < BANDS; y++)
+            covariance[x * BANDS + y] = covariance_of(x, y);
+}
+
+/* A sample times the vectors: component c is the sample along column c. */
+static void forward(const double *from, double *to)
+{
+    int b, c;
+    for (c = 0; c < BANDS; c++) {
+        to[c] = 0;
+        for (b = 0; b < BANDS; b++)
+            to[c] += vectors[b * BANDS + c] * from[b];
+    }
+}
+
+/* The vectors are orthonormal, so that their transpose goes back. */
+static void inverse(const double *from, double *to)
+{
+    int b, c;
+    for (b = 0; b < BANDS; b++) {
+        to[b] = mean[b];
+        for (c = 0; c < BANDS; c++)
+            to[b] += vectors[b * BANDS + c] * from[c];
+    }
+}
+
+static double magnitude(double x) { return x < 0 ? -x : x; }
+
+static double largest_difference(const double *x, const double *y, int length)
+{
+    double largest = 0;
+    int i;
+    for (i = 0; i < length; i++)
+        if (magnitude(x[i] - y[i]) > largest)
+            largest = magnitude(x[i] - y[i]);
+    return largest;
+}
+
+static int transform_bands(void)
+{
+    struct crewelmarsh_answer a;
+    double difference;
+    int s, b;
+    make_samples();
+    centre();
+    fill_covariance();
+    a = crewelmarsh_symmetric_eigen(BANDS, CREWELMARSH_MAX_LIMIT, covariance, BANDS * BANDS, work, BANDS,
+                                    result, BANDS + BANDS * BANDS);
+    if (!done("symmetric_eigen", a))
+        return 0;
+    printf("symmetric_eigen: %d bands, %zu passes, values", BANDS, a.count);
+    for (b = 0; b < BANDS; b++)
+        printf(" %.4f", values[b]);
+    printf("\n");
+
+    for (s = 0; s < SAMPLES; s++) {
+        forward(centred[s], coded[s]);
+        inverse(coded[s], decoded[s]);
+    }
+    difference = largest_difference(&samples[0][0], &decoded[0][0], SAMPLES * BANDS);
+    printf("forward and inverse: %d samples, largest difference %.2g\n", SAMPLES * BANDS, difference);
+    return difference < 1e-9;
+}
+
+/* A * A+ * A, which is A again. */
+static void there_and_back(const double *a, const double *inverse_of_a, double *product)
+{
+    double left[ROWS * ROWS];
+    int i, j, k;
+    for (i = 0; i < ROWS; i++)
+        for (j = 0; j < ROWS; j++) {
+            left[i * ROWS + j] = 0;
+            for (k = 0; k < COLUMNS; k++)
+                left[i * ROWS + j] += a[i * COLUMNS + k] * inverse_of_a[k * ROWS + j];
+        }
+    for (i = 0; i < ROWS; i++)
+        for (j = 0; j < COLUMNS; j++) {
+            product[i * COLUMNS + j] = 0;
+            for (k = 0; k < ROWS; k++)
+                product[i * COLUMNS + j] += left[i * ROWS + k] * a[k * COLUMNS + j];
+        }
+}
+
+/* The decomposition is the result of svd, passed on as it is with the same sizes and flags. */
+static int invert_small(void)
+{
+    static const double a[ROWS * COLUMNS] = {1, 2, 3, 4, 5, 6};
+    double svd_work[ROWS * SMALLER + SMALLER * SMALLER + SMALLER];
+    double decomposition[SMALLER + ROWS * SMALLER + SMALLER * COLUMNS];
+    double inverse_of_a[COLUMNS * ROWS], product[ROWS * COLUMNS], difference;
+    size_t work_len = crewelmarsh_svd_work_len(ROWS, COLUMNS);
+    size_t len = crewelmarsh_svd_result_len(ROWS, COLUMNS, 1, 1);
+    struct crewelmarsh_part row;
+
+    struct crewelmarsh_answer answer = crewelmarsh_svd(
+        ROWS, COLUMNS, 1, 1, CREWELMARSH_MAX_LIMIT, a, ROWS * COLUMNS, svd_work, work_len, decomposition, len);
+    if (!done("svd", answer))
+        return 0;
+    row = crewelmarsh_vt_row(ROWS, COLUMNS, 1, 1, decomposition, len, 0);
+    printf("svd: %zu sweeps, values %.4f %.4f, first row of V^T %.4f %.4f\n", answer.count, decomposition[0],
+           decomposition[1], row.start[0], row.start[1]);
+
+    answer = crewelmarsh_pseudo_inverse(
+        ROWS, COLUMNS, 1, 1, 1e-12, decomposition, len, inverse_of_a, COLUMNS * ROWS);
+    if (!done("pseudo_inverse", answer))
+        return 0;
+    there_and_back(a, inverse_of_a, product);
+    difference = largest_difference(a, product, ROWS * COLUMNS);
+    printf("pseudo_inverse: largest difference of A * A+ * A to A %.2g\n", difference);
+    return difference < 1e-9;
+}
+
+/* What a refusal looks like: 257 bands. */
+static void refuse(void)
+{
+    done("symmetric_eigen of 257", crewelmarsh_symmetric_eigen(257, 60, NULL, 0, NULL, 0, NULL, 0));
+}
+
+int main(void)
+{
+    int good = transform_bands();
+    good = invert_small() && good;
+    refuse();
+    printf("%s\n", good ? "good" : "NOT good");
+    return !good;
+}

@@ -1,0 +1,391 @@
+/*
+ * Crewelmarsh: dense linear algebra for a codec. C99 and C++.
+ *
+ * Five entries, each taking sizes, flags and arrays of double and giving back three numbers:
+ *
+ *     crewelmarsh_symmetric_eigen   values and vectors of a symmetric matrix
+ *     crewelmarsh_svd               singular values, U and V^T of any matrix
+ *     crewelmarsh_solve             least squares by an svd
+ *     crewelmarsh_pseudo_inverse    the pseudo-inverse by an svd
+ *     crewelmarsh_qr_q              an orthonormal basis of the columns
+ *
+ * WHAT IS ASKED OF A CALLER
+ *
+ * An array is lent as a pointer and a length in numbers (not bytes). The arrays of one call exist at
+ * the length given, are aligned for double and don't overlap. No code can test that. Nothing else is
+ * asked: every other mistake comes back as a number, and no array is read or written outside its
+ * length. An array of length 0 may be NULL, or any other pointer: it isn't looked at.
+ *
+ * Matrices stand row by row: cell (i, j) of a matrix with n columns is at i * n + j. Dimensions are 0 to
+ * 256, limits 1 to 60. A flag is a number: 0 is no, anything else is yes. Lengths are exact, neither
+ * longer nor shorter; the helpers below give them.
+ *
+ * An entry uses no heap, no file and no memory but the arrays lent and some kilobytes of stack, and
+ * keeps nothing between calls. Calls on different arrays may run at the same time.
+ *
+ * WHAT COMES BACK
+ *
+ * `answer` says what happened, `place` where, `count` how much work was done. Test `answer` after
+ * every call: only 0 leaves a result. The same call gives the same bits, whatever work, result and
+ * answer held before. No entry writes an infinity or a NaN.
+ *
+ *     answer   arrays afterwards
+ *     0        result or answer full, work all +0.0
+ *     1 to 6   all untouched
+ *     7 to 9   result or answer, and work, all +0.0
+ *
+ * Matrix, decomposition and right side are only read.
+ *
+ * The tests run in the order of the numbers, so a 6 says that sizes, limit and flags were good, and a 7
+ * that the lengths were good too. 8 and 9 come as the run meets them.
+ *
+ * MAGNITUDE
+ *
+ * Squares and products of the numbers are formed. Where the largest magnitude in a matrix lies outside
+ * 2^-250 to 2^250 (about 1e-75 to 1e75) they may overflow or vanish: then mostly the answer is 8 or 9, but
+ * also 0 with numbers that are the defined ones and yet no eigenvectors or singular vectors (found by
+ * trying: symmetric_eigen below about 2^-515, svd above about 2^252). Multiply such a matrix by a power of
+ * two first, and the values by its inverse afterwards; the vectors stay.
+ *
+ * WHICH BITS
+ *
+ * Every outcome is defined to the last bit, in the floating-point state that a C program starts with: round
+ * to nearest, subnormal numbers kept. Linking with -ffast-math may change that state for the whole
+ * program, and then the definition doesn't describe what comes out.
+ */
+#ifndef CREWELMARSH_H
+#define CREWELMARSH_H
+
+#include <stddef.h>
+
+#ifdef __cplusplus
+extern "C" {
+#endif
+
+/* What a call comes back with. */
+struct crewelmarsh_answer {
+    size_t answer; /* one of the numbers below */
+    size_t place;  /* where, by the answer; 0 where nothing is said of it */
+    size_t count;  /* QL passes or sweeps run, the one that stopped the run included; else 0 */
+};
+
+enum {
+    CREWELMARSH_MAX_DIMENSION = 256,
+    CREWELMARSH_MIN_LIMIT = 1,
+    CREWELMARSH_MAX_LIMIT = 60
+};
+
+/*
+ * The answer numbers: when exactly each is given, its place, and what to do about it.
+ */
+enum {
+    /* Done. Place 0. */
+    CREWELMARSH_DONE = 0,
+
+    /* A dimension is over 256. Place 0.
+       The size is wrong (a negative int becomes a huge size_t), or the image has more bands than are
+       taken: split them into groups. */
+    CREWELMARSH_DIMENSION = 1,
+
+    /* The limit is outside 1 to 60 (symmetric_eigen, svd). Place 0.
+       Pass 60 if in doubt. */
+    CREWELMARSH_LIMIT = 2,
+
+    /* The decomposition has no U: has_u is 0 (solve, pseudo_inverse). Place 0.
+       Call svd with want_u and want_vt, and pass the same two flags here. */
+    CREWELMARSH_NO_U = 3,
+
+    /* The decomposition has no V^T: has_vt is 0 (the same two). Place 0.
+       As for 3. */
+    CREWELMARSH_NO_VT = 4,
+
+    /* The right side's length is not m (solve). Place 0.
+       m is the number of rows of the matrix that was decomposed. Look for m and n exchanged. */
+    CREWELMARSH_RIGHT_SIDE = 5,
+
+    /* The length of another array is wrong. Place: the first such array, numbered from 0 in the order
+       matrix or decomposition, work if there is one, result or answer.
+       Take lengths from the helpers below. They count doubles, not bytes, and depend on the flags. */
+    CREWELMARSH_LENGTH = 6,
+
+    /* A number read is a NaN or infinite. Place: its index in the array, so row place / columns, column
+       place % columns; in solve, indices from decomposition_len on are of the right side.
+       The fault is in what the caller computed. Look at samples, sums and divisions by zero there. */
+    CREWELMARSH_NOT_FINITE = 7,
+
+    /* A number became a NaN or infinite during the run. Place: the mark where that was seen, see the
+       entry; in qr_q the column.
+       The input is finite but too large, see MAGNITUDE above: scale it so that its largest number is near
+       1. In solve and pseudo_inverse a singular value is too small to divide by: raise the tolerance. */
+    CREWELMARSH_OVERFLOW = 8,
+
+    /* The limit is used up. Place: in symmetric_eigen the index l of the value being worked on, in svd
+       the sweeps run.
+       With a limit below 60, try 60. At 60, svd gives this for many singular matrices, also small and
+       plain ones such as (0 0; 1 6). For a covariance use symmetric_eigen, which takes them. Else code
+       this tile without a transform, or with a fixed one. */
+    CREWELMARSH_LIMIT_USED = 9
+};
+
+/* A short text for an answer number, for logs. Never NULL. */
+static inline const char *crewelmarsh_text(size_t answer)
+{
+    switch (answer) {
+    case CREWELMARSH_DONE: return "done";
+    case CREWELMARSH_DIMENSION: return "a dimension is over 256";
+    case CREWELMARSH_LIMIT: return "the limit is outside 1 to 60";
+    case CREWELMARSH_NO_U: return "U was not computed";
+    case CREWELMARSH_NO_VT: return "V^T was not computed";
+    case CREWELMARSH_RIGHT_SIDE: return "the right side's length is not m";
+    case CREWELMARSH_LENGTH: return "an array's length is wrong";
+    case CREWELMARSH_NOT_FINITE: return "a number read is not finite";
+    case CREWELMARSH_OVERFLOW: return "a number computed is not finite";
+    case CREWELMARSH_LIMIT_USED: return "the limit is used up";
+    default: return "no answer of crewelmarsh";
+    }
+}
+
+/*
+ * Lengths, in numbers. Where a dimension is over 256 each gives 0, so that nothing overflows and
+ * nothing is allocated: pass the 0 on, and the call answers 1.
+ *
+ * The most that any of them gives is 131,328 (the work or the result of an svd of 256 by 256).
+ */
+
+/* rows * columns; the length of a matrix. */
+static inline size_t crewelmarsh_matrix_len(size_t rows, size_t columns)
+{
+    if (rows > CREWELMARSH_MAX_DIMENSION || columns > CREWELMARSH_MAX_DIMENSION)
+        return 0;
+    return rows * columns;
+}
+
+/* r, the smaller of m and n: how many singular values an m by n matrix has. */
+static inline size_t crewelmarsh_svd_values_len(size_t m, size_t n)
+{
+    if (m > CREWELMARSH_MAX_DIMENSION || n > CREWELMARSH_MAX_DIMENSION)
+        return 0;
+    return m < n ? m : n;
+}
+
+/* n */
+static inline size_t crewelmarsh_symmetric_eigen_work_len(size_t n)
+{
+    return n > CREWELMARSH_MAX_DIMENSION ? 0 : n;
+}
+
+/* n + n * n */
+static inline size_t crewelmarsh_symmetric_eigen_result_len(size_t n)
+{
+    return n > CREWELMARSH_MAX_DIMENSION ? 0 : n + n * n;
+}
+
+/* max(m, n) * r + r * r + r */
+static inline size_t crewelmarsh_svd_work_len(size_t m, size_t n)
+{
+    size_t r = crewelmarsh_svd_values_len(m, n);
+    return crewelmarsh_matrix_len(m, n) + r * r + r;
+}
+
+/* r, and m * r if U is wanted, and r * n if V^T is wanted; also the length of a decomposition. */
+static inline size_t crewelmarsh_svd_result_len(size_t m, size_t n, size_t want_u, size_t want_vt)
+{
+    size_t r = crewelmarsh_svd_values_len(m, n);
+    size_t len = r;
+    if (want_u)
+        len += crewelmarsh_matrix_len(m, r);
+    if (want_vt)
+        len += crewelmarsh_matrix_len(r, n);
+    return len;
+}
+
+/* m */
+static inline size_t crewelmarsh_solve_right_side_len(size_t m)
+{
+    return m > CREWELMARSH_MAX_DIMENSION ? 0 : m;
+}
+
+/* n */
+static inline size_t crewelmarsh_solve_answer_len(size_t n)
+{
+    return n > CREWELMARSH_MAX_DIMENSION ? 0 : n;
+}
+
+/* n * m */
+static inline size_t crewelmarsh_pseudo_inverse_answer_len(size_t m, size_t n)
+{
+    return crewelmarsh_matrix_len(n, m);
+}
+
+/* m * k */
+static inline size_t crewelmarsh_qr_q_answer_len(size_t m, size_t k)
+{
+    return crewelmarsh_matrix_len(m, k);
+}
+
+/*
+ * Values and vectors of a symmetric matrix (Householder reduction, then QL passes).
+ *
+ * n          rows and columns, 0 to 256
+ * limit      the most QL passes for any one value, 1 to 60
+ * matrix     n * n, only read, and only on and below the diagonal: above it may stand anything, also NaN
+ * work       n
+ * result     n + n * n. On 0: the n values, ascending; then the vectors, an n by n matrix whose column j
+ *            (cells n + i * n + j) belongs to value j
+ *
+ * Answers:
+ *   0  count: passes run in all (0 for n = 0, and for a diagonal matrix)
+ *   1, 2
+ *   6  place 0 matrix, 1 work, 2 result
+ *   7  place i * n + j, the first such on or below the diagonal, row by row
+ *   8  place 0: after the reduction; 1: after a pass; 2: after the last value. Count: passes run
+ *   9  place: the value being worked on, 0 to n - 1. Count: passes run in all
+ */
+struct crewelmarsh_answer crewelmarsh_symmetric_eigen(
+    size_t n,
+    size_t limit,
+    const double *matrix, size_t matrix_len,
+    double *work, size_t work_len,
+    double *result, size_t result_len);
+
+/*
+ * The singular value decomposition of an m by n matrix, A = U * diag(values) * V^T (one-sided Jacobi).
+ * Let r be the smaller of m and n.
+ *
+ * m, n       rows and columns, 0 to 256
+ * want_u     whether U is wanted
+ * want_vt    whether V^T is wanted
+ * limit      the most sweeps, 1 to 60. The sweep that finds nothing to turn counts too
+ * matrix     m * n, only read
+ * work       max(m, n) * r + r * r + r
+ * result     r, then m * r if U is wanted, then r * n if V^T is wanted. On 0: the values, descending;
+ *            then U, an m by r matrix; then V^T, an r by n matrix. Where a value is 0, its column of U
+ *            (for m < n its row of V^T) need not have length 1
+ *
+ * Answers:
+ *   0  count: sweeps run, 1 or more
+ *   1, 2
+ *   6  place 0 matrix, 1 work, 2 result
+ *   7  place: index in the matrix
+ *   8  place 1: after a sweep; 2: after the last, with the values found. Count: sweeps run
+ *   9  place and count: sweeps run, which is the limit
+ */
+struct crewelmarsh_answer crewelmarsh_svd(
+    size_t m,
+    size_t n,
+    size_t want_u,
+    size_t want_vt,
+    size_t limit,
+    const double *matrix, size_t matrix_len,
+    double *work, size_t work_len,
+    double *result, size_t result_len);
+
+/* Part of an array: `length` numbers from `start`. */
+struct crewelmarsh_part {
+    const double *start;
+    size_t length;
+};
+
+/*
+ * Row j of V^T, as the part of an svd's result that it is: n numbers, with no copy. The empty part at
+ * the array's start, where j is not below r, V^T wasn't wanted, a dimension is over 256 or result_len is
+ * not the length of such a result.
+ */
+static inline struct crewelmarsh_part crewelmarsh_vt_row(
+    size_t m,
+    size_t n,
+    size_t has_u,
+    size_t has_vt,
+    const double *result, size_t result_len,
+    size_t j)
+{
+    struct crewelmarsh_part row;
+    row.start = result;
+    row.length = 0;
+    if (m > CREWELMARSH_MAX_DIMENSION || n > CREWELMARSH_MAX_DIMENSION || !has_vt)
+        return row;
+    if (result_len != crewelmarsh_svd_result_len(m, n, has_u, has_vt))
+        return row;
+    if (j >= crewelmarsh_svd_values_len(m, n))
+        return row;
+    row.start = result + crewelmarsh_svd_result_len(m, n, has_u, 0) + j * n;
+    row.length = n;
+    return row;
+}
+
+/*
+ * The x of least length among those that make |A * x - right_side| least, from an svd of A.
+ *
+ * m, n       the dimensions of A, as passed to svd
+ * has_u      the flags passed to svd; both must be yes
+ * has_vt
+ * tolerance  a singular value counts only where it is above the tolerance. max(m, n) * 2^-52 times the
+ *            largest value is usual; 0 takes all that are not 0. Any double is taken: with a NaN or
+ *            +infinity no value counts and the answer is all zeros, and with a negative one values
+ *            of 0 are divided by, which ends in 8
+ * decomposition   the result of svd: r + m * r + r * n, only read
+ * right_side m, only read
+ * answer     n. On 0: x
+ *
+ * Answers, count always 0:
+ *   0, 1, 3, 4, 5
+ *   6  place 0 decomposition, 1 answer
+ *   7  place: index in the decomposition, or decomposition_len + index in the right side
+ *   8  place 2
+ */
+struct crewelmarsh_answer crewelmarsh_solve(
+    size_t m,
+    size_t n,
+    size_t has_u,
+    size_t has_vt,
+    double tolerance,
+    const double *decomposition, size_t decomposition_len,
+    const double *right_side, size_t right_side_len,
+    double *answer, size_t answer_len);
+
+/*
+ * The pseudo-inverse of A, an n by m matrix, from an svd of A.
+ *
+ * m, n, has_u, has_vt, tolerance, decomposition   as in solve
+ * answer     n * m. On 0: the pseudo-inverse
+ *
+ * Answers, count always 0:
+ *   0, 1, 3, 4
+ *   6  place 0 decomposition, 1 answer
+ *   7  place: index in the decomposition
+ *   8  place 2
+ */
+struct crewelmarsh_answer crewelmarsh_pseudo_inverse(
+    size_t m,
+    size_t n,
+    size_t has_u,
+    size_t has_vt,
+    double tolerance,
+    const double *decomposition, size_t decomposition_len,
+    double *answer, size_t answer_len);
+
+/*
+ * An orthonormal basis of the columns of an m by k matrix, from left to right (Gram-Schmidt, twice).
+ *
+ * m, k       rows and columns, 0 to 256; k may be above m
+ * matrix     m * k, only read
+ * answer     m * k. On 0: column j has length 1, or is all +0.0 where what was left of column j after
+ *            the columns before it had a length not above 2^-52
+ *
+ * Answers, count always 0:
+ *   0, 1
+ *   6  place 0 matrix, 1 answer
+ *   7  place: index in the matrix
+ *   8  place: the column whose length is not finite
+ */
+struct crewelmarsh_answer crewelmarsh_qr_q(
+    size_t m,
+    size_t k,
+    const double *matrix, size_t matrix_len,
+    double *answer, size_t answer_len);
+
+#ifdef __cplusplus
+}
+#endif
+
+#endif

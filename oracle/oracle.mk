@@ -1,0 +1,103 @@
+# Document 000 in Rust, and what is compared with it. Included by the top Makefile; paths are from the repository's root.
+# Needs rustc and a C compiler, no package and no network.
+
+RUSTC ?= rustc
+ORACLE := oracle/target
+# The archive that is compared and measured, the seed and number of fresh cases, and their largest size.
+ARCHIVE ?= dist/libcrewelmarsh.a
+SEED ?= 1
+CASES ?= 100000
+LARGEST ?= 12
+
+ORACLE_SOURCES := $(wildcard oracle/src/*.rs)
+ORACLE_RUSTC := $(RUSTC) --edition 2024 -C opt-level=3
+ORACLE_ENTRIES := symmetric_eigen svd solve pseudo_inverse qr_q
+
+.PHONY: oracle oracle-check oracle-mutants oracle-standin findings cases compare bench has-rustc
+
+has-rustc:
+	@command -v $(RUSTC) >/dev/null || { echo "the oracle is Rust, and there is no $(RUSTC) here"; exit 1; }
+
+$(ORACLE)/document_000_hypot01.rs: oracle/src/document_000.rs
+	mkdir -p $(ORACLE)
+	sed 's/\.hypot(/.hypot01(/' $< >$@
+
+$(ORACLE)/liboracle.rlib: $(ORACLE_SOURCES) $(ORACLE)/document_000_hypot01.rs | has-rustc
+	DOCUMENT_000_HYPOT01=$(CURDIR)/$(ORACLE)/document_000_hypot01.rs $(ORACLE_RUSTC) --crate-type rlib --crate-name oracle \
+	  --cfg 'feature="machine_learning"' --check-cfg 'cfg(feature, values("machine_learning"))' oracle/src/lib.rs -o $@
+
+$(ORACLE)/oracle: oracle/src/main.rs $(ORACLE)/liboracle.rlib
+	$(ORACLE_RUSTC) --extern oracle=$(ORACLE)/liboracle.rlib $< -o $@
+
+oracle: $(ORACLE)/oracle
+
+# The oracle against itself: the text is document 000's; where the patched functions answer 0, document 000 gives the
+# same bits; the committed list is what the oracle writes.
+oracle-check: $(ORACLE)/oracle
+	oracle/verbatim.sh
+	$(ORACLE)/oracle check $(SEED) $(CASES)
+	$(ORACLE)/oracle check $(SEED) 2000 40
+	$(ORACLE)/oracle list | cmp - crates/replay/stdin
+	$(ORACLE)/oracle agreed | cmp - crates/replay/stdout
+
+# The committed list finds every wrong version of a table of them.
+oracle-mutants: has-rustc
+	RUSTC=$(RUSTC) CC=$(CC) oracle/mutants.sh
+
+# What docs/FINDINGS.md tells, run again.
+findings: $(ORACLE)/oracle
+	$(ORACLE)/oracle findings
+
+# The committed list, and what its replay writes, anew.
+cases: $(ORACLE)/oracle
+	mkdir -p crates/replay
+	$(ORACLE)/oracle list >crates/replay/stdin
+	$(ORACLE)/oracle agreed >crates/replay/stdout
+
+# The patched functions behind the C entries, for trying a test or a driver: one object, no other name visible.
+$(ORACLE)/libcrewelmarsh_oracle.a: oracle/src/entries.rs oracle/src/patched.rs oracle/src/hypot.rs | has-rustc
+	mkdir -p $(ORACLE)
+	$(ORACLE_RUSTC) -C panic=abort --crate-type staticlib --crate-name crewelmarsh_oracle $< -o $(ORACLE)/all.a
+	ld -r --gc-sections $(ORACLE_ENTRIES:%=-u crewelmarsh_%) -o $(ORACLE)/one.o $(ORACLE)/all.a
+	objcopy $(ORACLE_ENTRIES:%=--keep-global-symbol=crewelmarsh_%) -R .llvmbc -R .llvmcmd -R .eh_frame --strip-debug $(ORACLE)/one.o
+	rm -f $@ $(ORACLE)/all.a
+	ar rcs $@ $(ORACLE)/one.o
+
+oracle-standin: $(ORACLE)/libcrewelmarsh_oracle.a
+
+# Programs over the archive are x86-64. Elsewhere they are built with the kit's own tools and run under its emulator.
+ifeq ($(shell uname -m),x86_64)
+$(ORACLE)/runner: oracle/runner.c $(ARCHIVE)
+	$(CC) -std=c99 -Wall -Wextra -O2 -ffp-contract=off $^ -o $@
+RUN_RUNNER = $(ORACLE)/runner
+else
+KIT = $(shell dirname "$$(dirname "$$(rt doc)")")
+KIT_OWN = $(KIT)/on/$(shell uname -m)
+KIT_TOOLS = $(KIT_OWN)/toolchain
+$(ORACLE)/runner: oracle/runner.c $(ARCHIVE)
+	$(KIT_TOOLS)/bin/clang --target=x86_64-unknown-linux-gnu -march=x86-64 --no-default-config -nostdinc -std=c11 -O2 \
+	  -ffp-contract=off -fPIC -c $< -o $@.o
+	$(KIT_OWN)/bin/rattle-link --target x86_64-unknown-linux-gnu --toolchain $(KIT_TOOLS) -o $@ $@.o $(ARCHIVE)
+RUN_RUNNER = $(KIT_TOOLS)/bin/qemu-x86_64 $(KIT_TOOLS)/lib/ld-linux-x86-64.so.2 --library-path $(KIT_TOOLS)/lib $(ORACLE)/runner
+endif
+
+# The committed list and fresh cases through the archive's C entries.
+compare: $(ORACLE)/oracle $(ORACLE)/runner
+	$(ORACLE)/oracle list | $(RUN_RUNNER)
+	$(ORACLE)/oracle fresh $(SEED) $(CASES) $(LARGEST) | $(RUN_RUNNER)
+
+# Document 000 and the archive in one program and one run; the table is docs/BENCHMARKS.md's. Elsewhere than on x86-64 the
+# archive's module is compiled for the machine first, since a time under an emulator says nothing.
+ifeq ($(shell uname -m),x86_64)
+MEASURED := $(ARCHIVE)
+else
+MEASURED := $(ORACLE)/native.o
+$(MEASURED): oracle/native.sh $(ARCHIVE)
+	oracle/native.sh $@
+endif
+
+$(ORACLE)/bench: oracle/bench.rs $(ORACLE)/liboracle.rlib $(MEASURED)
+	$(ORACLE_RUSTC) --extern oracle=$(ORACLE)/liboracle.rlib -C link-arg=$(MEASURED) $< -o $@
+
+bench: $(ORACLE)/bench
+	$(ORACLE)/bench

@@ -1,0 +1,9 @@
+//! Document 000 as it is (`plain`), document 000 with 01's patches (`patched`), and cases for comparing with them.
+
+pub mod cases;
+pub mod findings;
+pub mod hypot;
+pub mod ndarray;
+pub mod patched;
+pub mod plain;
+pub mod special;

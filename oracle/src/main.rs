@@ -1,0 +1,142 @@
+//! The oracle's commands: `list`, `agreed`, `fresh SEED CASES LARGEST`, `check SEED CASES LARGEST`, `findings`.
+
+use oracle::cases::*;
+use oracle::{findings, plain, special};
+use std::io::{self, BufWriter, Write};
+
+/// Words of a result up to this many stand in the committed list; a longer one is there by its hash.
+const SHOWN: usize = 40;
+const LIST_SEED: u64 = 8;
+const LIST_RANDOM: usize = 3000;
+const NAMES: [&str; 7] = ["", "symmetric_eigen", "svd", "solve", "pseudo_inverse", "qr_q", "row of V^T"];
+
+/// The cases of the committed list.
+fn listed() -> Vec<Case> {
+    let mut cases = special::all();
+    let mut rng = Random::new(LIST_SEED);
+    for _ in 0..LIST_RANDOM {
+        let mut case = random(&mut rng, 12);
+        // Most long inputs are made by the list's own generator, so that the list stays short.
+        let len = case.a.len() + case.b.len();
+        if len > 36 && !rng.one_in(12) && case.function != VT_ROW {
+            let (kind, seed) = (1 + rng.below(2), rng.word() | 1);
+            let scale = if rng.one_in(4) { rng.power(-1074, 1023) } else { 1.0 };
+            let mut all = made(kind, seed, scale, len);
+            case.b = all.split_off(case.a.len());
+            case.a = all;
+            case.input = Input::Made { kind, seed, scale };
+        }
+        cases.push(case);
+    }
+    cases
+}
+
+fn list(out: &mut impl Write) -> io::Result<()> {
+    for case in listed() {
+        case.write(out, SHOWN)?;
+    }
+    out.write_all(&0u64.to_le_bytes())
+}
+
+/// What a replay of the list writes where all agree.
+fn agreed(out: &mut impl Write) -> io::Result<()> {
+    let mut counts = [0; 7];
+    listed().iter().for_each(|case| counts[case.function as usize] += 1);
+    for function in 1..7 {
+        writeln!(out, "{}: {} of {}", NAMES[function], counts[function], counts[function])?;
+    }
+    Ok(())
+}
+
+fn fresh(out: &mut impl Write, seed: u64, cases: usize, largest: u64) -> io::Result<()> {
+    let mut rng = Random::new(seed);
+    for _ in 0..cases {
+        let case = random(&mut rng, largest);
+        case.write(out, usize::MAX)?;
+    }
+    out.write_all(&0u64.to_le_bytes())
+}
+
+/// Where the patched functions answer 0, document 000 with 01's hypot gives the same bits. Also says how many answers
+/// of each number there were, and in how many cases the platform's hypot gives other bits.
+fn check(seed: u64, cases: usize, largest: u64) -> bool {
+    let mut answers = [[0usize; 10]; 7];
+    let mut marks = [[0usize; 3]; 7];
+    let mut compared = [0usize; 7];
+    let mut wrong = 0;
+    let mut other_hypot = 0;
+    let mut rng = Random::new(seed);
+    let mut all = special::all();
+    while all.len() < cases {
+        all.push(random(&mut rng, largest));
+    }
+    for case in &all {
+        if case.function == VT_ROW {
+            continue;
+        }
+        let done = case.outcome();
+        answers[case.function as usize][done.answer.answer] += 1;
+        if done.answer.answer == 8 && done.answer.place < 3 {
+            marks[case.function as usize][done.answer.place] += 1;
+        }
+        let plus_zero = |cells: &[f64]| cells.iter().all(|x| x.to_bits() == 0);
+        let (work, result) = case.before();
+        let same = |x: &[f64], y: &[f64]| x.len() == y.len() && x.iter().zip(y).all(|(x, y)| x.to_bits() == y.to_bits());
+        let fits = match done.answer.answer {
+            0 => plus_zero(&done.work) && done.result.iter().all(|x| x.is_finite()),
+            1..=6 => same(&work, &done.work) && same(&result, &done.result),
+            _ => plus_zero(&done.work) && plus_zero(&done.result),
+        };
+        if !fits {
+            wrong += 1;
+            println!("arrays after answer {}: {} {:?}", done.answer.answer, NAMES[case.function as usize], case.parameters);
+        }
+        if done.answer.answer != 0 {
+            continue;
+        }
+        let p = case.parameters.map(|p| p as usize);
+        let tolerance = f64::from_bits(case.parameters[4]);
+        let given = match case.function {
+            EIGEN => plain::by_01::eigen_cells(p[0], &case.a),
+            SVD => plain::by_01::svd_cells(p[0], p[1], p[2] != 0, p[3] != 0, &case.a),
+            SOLVE => plain::by_01::solve_cells(p[0], p[1], tolerance, &case.a, &case.b),
+            PSEUDO_INVERSE => plain::by_01::pseudo_inverse_cells(p[0], p[1], tolerance, &case.a),
+            _ => plain::by_01::qr_q_cells(p[0], p[1], &case.a),
+        };
+        compared[case.function as usize] += 1;
+        if !same(&given, &done.result) {
+            wrong += 1;
+            println!("other bits: {} {:?} {:?}", NAMES[case.function as usize], case.parameters, case.a);
+        }
+        if case.function == EIGEN && p[0] <= 12 {
+            other_hypot += !same(&plain::platform::eigen_cells(p[0], &case.a), &done.result) as usize;
+        }
+    }
+    for f in 1..6 {
+        println!("{}: {} compared with document 000; cases by answer 0 to 9: {:?}, 8 by place 0 to 2: {:?}", NAMES[f], compared[f], answers[f], marks[f]);
+    }
+    println!("{} of the eigen cases up to n = 12 have other bits under the platform's hypot", other_hypot);
+    println!("{} cases, {} wrong", all.len(), wrong);
+    wrong == 0
+}
+
+fn main() -> io::Result<()> {
+    let words: Vec<String> = std::env::args().skip(1).collect();
+    let number = |i: usize, otherwise: u64| words.get(i).map_or(otherwise, |w| w.parse().expect("a number"));
+    let mut out = BufWriter::new(io::stdout().lock());
+    match words.first().map(String::as_str) {
+        Some("list") => list(&mut out)?,
+        Some("agreed") => agreed(&mut out)?,
+        Some("fresh") => fresh(&mut out, number(1, 1), number(2, 100_000) as usize, number(3, 12))?,
+        Some("check") => {
+            drop(out);
+            if !check(number(1, 1), number(2, 20_000) as usize, number(3, 12)) {
+                std::process::exit(1);
+            }
+            return Ok(());
+        }
+        Some("findings") => findings::print(),
+        _ => eprintln!("oracle list | oracle agreed | oracle findings | oracle fresh SEED CASES LARGEST | oracle check SEED CASES LARGEST"),
+    }
+    out.flush()
+}

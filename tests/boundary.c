@@ -1,0 +1,25 @@
+/* The C boundary, through the archive: one line a group, a count at the end, status 1 on a failure. */
+#include "boundary.h"
+
+int main(void)
+{
+    group("header from C");
+    header_from_c(check);
+    group("header from C++");
+    header_from_cpp(check);
+    group("symmetric_eigen");
+    test_symmetric_eigen();
+    group("svd");
+    test_svd();
+    group("solve");
+    test_solve();
+    group("pseudo_inverse");
+    test_pseudo_inverse();
+    group("qr_q");
+    test_qr_q();
+    group("sizes");
+    test_sizes();
+    group("numbers");
+    test_numbers();
+    return report();
+}

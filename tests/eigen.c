@@ -1,0 +1,141 @@
+/* crewelmarsh_symmetric_eigen: the worked numbers and every answer it can give. */
+#include "boundary.h"
+
+/* Its lower triangle; above it stand zeros. */
+static const double plain[9] = {4, 0, 0, 1, 3, 0, 2, 1, 5};
+
+static void worked(void)
+{
+    double minus_zero[1] = {-0.0};
+    double zero_result[2] = {0, 1};
+    double diagonal[4] = {2, 0, 0, 1};
+    double diagonal_result[6] = {1, 2, 0, 1, 1, 0};
+    double matrix[4] = {1, 0, 0, 2};
+    double identity_result[6] = {1, 2, 1, 0, 0, 1};
+
+    expect("n = 0", eigen_call(0, NULL), 0, 0, 0, NULL);
+    expect("-0.0", eigen_call(1, minus_zero), 0, 0, 0, zero_result);
+    expect("diagonal (2, 1)", eigen_call(2, diagonal), 0, 0, 0, diagonal_result);
+    matrix[1] = not_a_number();
+    expect("NaN above the diagonal", eigen_call(2, matrix), 0, 0, 0, identity_result);
+    matrix[1] = 0;
+    matrix[2] = not_a_number();
+    expect("NaN below the diagonal", eigen_call(2, matrix), 7, 2, 0, NULL);
+}
+
+/* Whatever stands above the diagonal, the outcome is the same. */
+static void above_the_diagonal(void)
+{
+    static const size_t above[3] = {1, 2, 5};
+    double result[12], matrix[9];
+    size_t count = expect_done("plain", eigen_call(3, plain), result);
+    int i, k, w;
+    for (w = 0; w < BAD_NUMBERS; w++)
+        for (i = 0; i < 3; i++) {
+            for (k = 0; k < 9; k++)
+                matrix[k] = plain[k];
+            matrix[above[i]] = from_bits(bad_numbers[w]);
+            expect("above the diagonal", eigen_call(3, matrix), 0, 0, count, result);
+        }
+}
+
+/* All is wrong at first; what is found first is mended, and the next is found. */
+static void order_of_tests(void)
+{
+    double matrix[4] = {1, 0, 0, 2};
+    struct call c = eigen_call(2, matrix);
+    matrix[2] = not_a_number();
+    c.n = 257;
+    c.limit = 0;
+    c.in_len = 3;
+    c.work_len = 1;
+    c.out_len = 7;
+    expect("n of 257", c, 1, 0, 0, NULL);
+    c.n = 2;
+    expect("limit 0", c, 2, 0, 0, NULL);
+    c.limit = 61;
+    expect("limit 61", c, 2, 0, 0, NULL);
+    c.limit = 1;
+    expect("matrix of 3", c, 6, 0, 0, NULL);
+    c.in_len = 4;
+    expect("work of 1", c, 6, 1, 0, NULL);
+    c.work_len = 2;
+    expect("result of 7", c, 6, 2, 0, NULL);
+    c.out_len = 6;
+    expect("NaN", c, 7, 2, 0, NULL);
+    matrix[2] = 0;
+    expect("mended", c, 0, 0, 0, NULL);
+}
+
+static void lengths(void)
+{
+    struct call c = eigen_call(3, plain);
+    expect_length("matrix", &c, &c.in_len, 0);
+    expect_length("work", &c, &c.work_len, 1);
+    expect_length("result", &c, &c.out_len, 2);
+}
+
+static void not_finite(void)
+{
+    double matrix[9];
+    size_t i, j;
+    for (i = 0; i < 3; i++)
+        for (j = 0; j <= i; j++)
+            expect_not_finite("on or below the diagonal", eigen_call(3, plain), i * 3 + j, i * 3 + j);
+    for (i = 0; i < 9; i++)
+        matrix[i] = i < 4 ? plain[i] : not_a_number();
+    expect("the first of several", eigen_call(3, matrix), 7, 4, 0, NULL);
+}
+
+static void marks(void)
+{
+    double first[9] = {0};
+    double second[4] = {0};
+    double third[4] = {0};
+    first[6] = first[7] = power_of_two(1023);
+    expect("mark 0", eigen_call(3, first), 8, 0, 0, NULL);
+    second[2] = power_of_two(-512);
+    second[3] = power_of_two(512);
+    expect("mark 1", eigen_call(2, second), 8, 1, 1, NULL);
+    third[0] = -1.75 * power_of_two(1022);
+    third[2] = 0.75 * power_of_two(1022);
+    third[3] = -3.75 * power_of_two(1022);
+    expect("mark 2", eigen_call(2, third), 8, 2, 1, NULL);
+}
+
+/* At a limit of 1 to 3 passes for each value. The count is of all passes. */
+static void limits(void)
+{
+    double matrix[9] = {0, 0, 0, 0, 1, 0, 1, 1, 0};
+    double split[16] = {2, 0, 0, 0, 0, 0, 0, 0, 0, 0, 0, 0, 1, 1, 0, 0};
+    struct call c = eigen_call(3, matrix);
+    expect("settled", c, 0, 0, 5, NULL);
+    for (c.limit = 1; c.limit <= 3; c.limit++)
+        expect("used up at the first value", c, 9, 0, c.limit, NULL);
+    c = eigen_call(4, split);
+    expect("settled", c, 0, 0, 6, NULL);
+    for (c.limit = 1; c.limit <= 3; c.limit++)
+        expect("used up at the second value", c, 9, 1, c.limit + 1, NULL);
+}
+
+static void large_limits(void)
+{
+    struct call c = eigen_call(3, plain);
+    int i;
+    for (i = 0; i < LARGE_NUMBERS; i++) {
+        c.limit = large_numbers[i];
+        expect("limit", c, 2, 0, 0, NULL);
+    }
+}
+
+void test_symmetric_eigen(void)
+{
+    worked();
+    above_the_diagonal();
+    order_of_tests();
+    lengths();
+    not_finite();
+    marks();
+    limits();
+    large_limits();
+}

@@ -1,0 +1,126 @@
+/*
+ * The header by itself: its constants, texts, lengths and rows, and that the five names link. Compiled
+ * as C99 and as C++, both linked and run. The header comes first, and twice.
+ */
+#include "crewelmarsh.h"
+#include "crewelmarsh.h"
+#include <string.h>
+
+#ifdef __cplusplus
+extern "C" void header_from_cpp(void (*check)(int good, const char *what));
+#define TEST_HEADER header_from_cpp
+#else
+void header_from_c(void (*check)(int good, const char *what));
+#define TEST_HEADER header_from_c
+#endif
+
+static const size_t dimensions[] = {0, 1, 2, 3, 17, 255, 256, 257, 4294967296u, (size_t)-1};
+enum { DIMENSIONS = sizeof dimensions / sizeof dimensions[0] };
+
+static int constants_right(void)
+{
+    return CREWELMARSH_DONE == 0 && CREWELMARSH_DIMENSION == 1 && CREWELMARSH_LIMIT == 2 &&
+           CREWELMARSH_NO_U == 3 && CREWELMARSH_NO_VT == 4 && CREWELMARSH_RIGHT_SIDE == 5 &&
+           CREWELMARSH_LENGTH == 6 && CREWELMARSH_NOT_FINITE == 7 && CREWELMARSH_OVERFLOW == 8 &&
+           CREWELMARSH_LIMIT_USED == 9 && CREWELMARSH_MAX_DIMENSION == 256 &&
+           CREWELMARSH_MIN_LIMIT == 1 && CREWELMARSH_MAX_LIMIT == 60;
+}
+
+/* The ten texts and the one for other numbers differ from each other. */
+static int texts_differ(void)
+{
+    size_t a, b;
+    for (a = 0; a <= 10; a++)
+        for (b = 0; b < a; b++)
+            if (strcmp(crewelmarsh_text(a), crewelmarsh_text(b)) == 0)
+                return 0;
+    return strcmp(crewelmarsh_text(10), crewelmarsh_text((size_t)-1)) == 0;
+}
+
+static int square_lengths_right(size_t n)
+{
+    size_t taken = n <= 256;
+    return crewelmarsh_symmetric_eigen_work_len(n) == (taken ? n : 0) &&
+           crewelmarsh_symmetric_eigen_result_len(n) == (taken ? n + n * n : 0) &&
+           crewelmarsh_solve_right_side_len(n) == (taken ? n : 0) &&
+           crewelmarsh_solve_answer_len(n) == (taken ? n : 0);
+}
+
+static int lengths_right(size_t m, size_t n)
+{
+    size_t taken = m <= 256 && n <= 256;
+    size_t r = m < n ? m : n;
+    size_t l = m < n ? n : m;
+    return crewelmarsh_matrix_len(m, n) == (taken ? m * n : 0) &&
+           crewelmarsh_svd_values_len(m, n) == (taken ? r : 0) &&
+           crewelmarsh_svd_work_len(m, n) == (taken ? l * r + r * r + r : 0) &&
+           crewelmarsh_svd_result_len(m, n, 0, 0) == (taken ? r : 0) &&
+           crewelmarsh_svd_result_len(m, n, 2, 0) == (taken ? r + m * r : 0) &&
+           crewelmarsh_svd_result_len(m, n, 0, 256) == (taken ? r + r * n : 0) &&
+           crewelmarsh_svd_result_len(m, n, 1, 1) == (taken ? r + m * r + r * n : 0) &&
+           crewelmarsh_pseudo_inverse_answer_len(m, n) == (taken ? n * m : 0) &&
+           crewelmarsh_qr_q_answer_len(m, n) == (taken ? m * n : 0);
+}
+
+static int is_part(struct crewelmarsh_part part, const double *start, size_t length)
+{
+    return part.start == start && part.length == length;
+}
+
+/* A 3 by 2 decomposition: values 0 and 1, U 2 to 7, V^T 8 to 11; without U, V^T is 2 to 5. */
+static int rows_right(void)
+{
+    double a[12] = {0, 1, 2, 3, 4, 5, 6, 7, 8, 9, 10, 11};
+    return is_part(crewelmarsh_vt_row(3, 2, 1, 1, a, 12, 0), a + 8, 2) &&
+           is_part(crewelmarsh_vt_row(3, 2, 256, (size_t)-1, a, 12, 1), a + 10, 2) &&
+           is_part(crewelmarsh_vt_row(3, 2, 0, 1, a, 6, 0), a + 2, 2) &&
+           is_part(crewelmarsh_vt_row(3, 2, 0, 1, a, 6, 1), a + 4, 2) &&
+           is_part(crewelmarsh_vt_row(2, 3, 1, 1, a, 12, 1), a + 9, 3);
+}
+
+static int empty_rows_right(void)
+{
+    double a[12] = {0, 1, 2, 3, 4, 5, 6, 7, 8, 9, 10, 11};
+    size_t most = (size_t)-1;
+    return is_part(crewelmarsh_vt_row(3, 2, 1, 1, a, 12, 2), a, 0) &&
+           is_part(crewelmarsh_vt_row(3, 2, 1, 1, a, 12, most), a, 0) &&
+           is_part(crewelmarsh_vt_row(3, 2, 1, 0, a, 8, 0), a, 0) &&
+           is_part(crewelmarsh_vt_row(3, 2, 1, 1, a, 11, 0), a, 0) &&
+           is_part(crewelmarsh_vt_row(3, 2, 0, 1, a, 12, 0), a, 0) &&
+           is_part(crewelmarsh_vt_row(257, 0, 1, 1, a, 0, 0), a, 0) &&
+           is_part(crewelmarsh_vt_row(0, most, 1, 1, a, 0, 0), a, 0) &&
+           is_part(crewelmarsh_vt_row(most, most, 1, 1, a, 0, 0), a, 0) &&
+           is_part(crewelmarsh_vt_row(0, 2, 1, 1, NULL, 0, 0), NULL, 0) &&
+           is_part(crewelmarsh_vt_row(2, 0, 1, 1, NULL, 0, 0), NULL, 0);
+}
+
+static int is_answer(struct crewelmarsh_answer a, size_t answer, size_t place, size_t count)
+{
+    return a.answer == answer && a.place == place && a.count == count;
+}
+
+/* An svd runs one sweep over no pair; the others do nothing. */
+static int five_names_link(void)
+{
+    return is_answer(crewelmarsh_symmetric_eigen(0, 60, NULL, 0, NULL, 0, NULL, 0), 0, 0, 0) &&
+           is_answer(crewelmarsh_svd(0, 0, 1, 1, 60, NULL, 0, NULL, 0, NULL, 0), 0, 0, 1) &&
+           is_answer(crewelmarsh_solve(0, 0, 1, 1, 0.0, NULL, 0, NULL, 0, NULL, 0), 0, 0, 0) &&
+           is_answer(crewelmarsh_pseudo_inverse(0, 0, 1, 1, 0.0, NULL, 0, NULL, 0), 0, 0, 0) &&
+           is_answer(crewelmarsh_qr_q(0, 0, NULL, 0, NULL, 0), 0, 0, 0);
+}
+
+void TEST_HEADER(void (*check)(int good, const char *what))
+{
+    int i, j;
+    check(constants_right(), "constants");
+    check(texts_differ(), "texts");
+    check(sizeof(struct crewelmarsh_answer) == 3 * sizeof(size_t), "three numbers");
+    for (i = 0; i < DIMENSIONS; i++) {
+        check(square_lengths_right(dimensions[i]), "lengths by n");
+        for (j = 0; j < DIMENSIONS; j++)
+            check(lengths_right(dimensions[i], dimensions[j]), "lengths by m and n");
+    }
+    check(rows_right(), "rows of V^T");
+    check(empty_rows_right(), "empty rows of V^T");
+    check(five_names_link(), "five names");
+}

@@ -1,0 +1,216 @@
+/* crewelmarsh_solve and crewelmarsh_pseudo_inverse: the worked numbers and every answer they can give. */
+#include "boundary.h"
+
+/* The decomposition of diagonal (2, 4); and whole numbers in the place of one of 3 by 2. */
+static const double diagonal[10] = {4, 2, 0, 1, 1, 0, 0, 1, 1, 0};
+static const double plain[12] = {1, 2, 3, 4, 5, 6, 7, 8, 9, 10, 11, 12};
+static const double right[3] = {2, 4, 6};
+
+static struct call with_tolerance(struct call c, double tolerance)
+{
+    c.tolerance = tolerance;
+    return c;
+}
+
+static struct call with_flags(struct call c, size_t u, size_t vt)
+{
+    c.u = u;
+    c.vt = vt;
+    return c;
+}
+
+/*
+ * Tolerances for the diagonal, with the outcome where both values count, the larger alone, and none. A
+ * value equal to the tolerance doesn't count; with a NaN none does.
+ */
+static void tolerances(struct call c, const double *both, const double *larger, const double *none)
+{
+    int i;
+    expect("tolerance 0", c, 0, 0, 0, both);
+    expect("tolerance -0", with_tolerance(c, -0.0), 0, 0, 0, both);
+    expect("tolerance -infinity", with_tolerance(c, -plus_infinity()), 0, 0, 0, both);
+    expect("tolerance just below 2", with_tolerance(c, from_bits(to_bits(2) - 1)), 0, 0, 0, both);
+    expect("tolerance 2", with_tolerance(c, 2), 0, 0, 0, larger);
+    expect("tolerance just below 4", with_tolerance(c, from_bits(to_bits(4) - 1)), 0, 0, 0, larger);
+    expect("tolerance 4", with_tolerance(c, 4), 0, 0, 0, none);
+    for (i = 0; i < BAD_NUMBERS - 1; i++)
+        expect("tolerance NaN or infinite", with_tolerance(c, from_bits(bad_numbers[i])), 0, 0, 0, none);
+}
+
+/* The flags, of a call that is done with both: any number but 0 is yes. */
+static void flags(struct call c, const double *done)
+{
+    int i, j;
+    expect("neither factor", with_flags(c, 0, 0), 3, 0, 0, NULL);
+    for (i = 0; i < LARGE_NUMBERS; i++) {
+        j = LARGE_NUMBERS - 1 - i;
+        expect("both", with_flags(c, large_numbers[i], large_numbers[j]), 0, 0, 0, done);
+        expect("no U", with_flags(c, 0, large_numbers[i]), 3, 0, 0, NULL);
+        expect("no V^T", with_flags(c, large_numbers[i], 0), 4, 0, 0, NULL);
+    }
+    expect("2 and 256", with_flags(c, 2, 256), 0, 0, 0, done);
+}
+
+static void solve_worked(void)
+{
+    double both[2] = {1, 1}, larger[2] = {0, 1}, none[2] = {0, 0};
+    tolerances(solve_call(2, 2, diagonal, right), both, larger, none);
+    flags(solve_call(2, 2, diagonal, right), both);
+    expect("0 by 2", solve_call(0, 2, NULL, NULL), 0, 0, 0, none);
+    expect("2 by 0", solve_call(2, 0, NULL, right), 0, 0, 0, NULL);
+    expect("0 by 0", solve_call(0, 0, NULL, NULL), 0, 0, 0, NULL);
+}
+
+/* All is wrong at first; what is found first is mended, and the next is found. */
+static void solve_order_of_tests(void)
+{
+    double decomposition[12], side[3] = {2, 4, 6};
+    struct call c = solve_call(3, 2, decomposition, side);
+    int i;
+    for (i = 0; i < 12; i++)
+        decomposition[i] = plain[i];
+    decomposition[11] = not_a_number();
+    side[2] = plus_infinity();
+    c.m = 257;
+    c.n = SIZE_MAX;
+    c.u = c.vt = 0;
+    c.right_len = 4;
+    c.in_len = 11;
+    c.out_len = 1;
+    expect("m of 257", c, 1, 0, 0, NULL);
+    c.m = 3;
+    expect("n too large", c, 1, 0, 0, NULL);
+    c.n = 2;
+    expect("neither factor", c, 3, 0, 0, NULL);
+    c.u = 1;
+    expect("no V^T", c, 4, 0, 0, NULL);
+    c.vt = 1;
+    expect("right side of 4", c, 5, 0, 0, NULL);
+    c.right_len = 3;
+    expect("decomposition of 11", c, 6, 0, 0, NULL);
+    c.in_len = 12;
+    expect("answer of 1", c, 6, 1, 0, NULL);
+    c.out_len = 2;
+    expect("NaN in the decomposition", c, 7, 11, 0, NULL);
+    decomposition[11] = 12;
+    expect("infinity in the right side", c, 7, 14, 0, NULL);
+    side[2] = 6;
+    expect("mended", c, 0, 0, 0, NULL);
+}
+
+static void solve_lengths(void)
+{
+    static const size_t wrong[] = {0, 1, 2, 4, 12};
+    struct call c = solve_call(3, 2, plain, right);
+    size_t i;
+    expect_length("decomposition", &c, &c.in_len, 0);
+    expect_length("answer", &c, &c.out_len, 1);
+    for (i = 0; i < sizeof wrong / sizeof wrong[0]; i++) {
+        c.right_len = wrong[i];
+        expect("right side", c, 5, 0, 0, NULL);
+    }
+}
+
+/* Indices go on from the decomposition to the right side. */
+static void solve_not_finite(void)
+{
+    double side[3];
+    size_t i, j, w;
+    for (i = 0; i < 12; i++)
+        expect_not_finite("decomposition", solve_call(3, 2, plain, right), i, i);
+    for (i = 0; i < 3; i++)
+        for (w = 0; w < BAD_NUMBERS; w++) {
+            for (j = 0; j < 3; j++)
+                side[j] = j < i ? right[j] : from_bits(bad_numbers[w]);
+            expect("right side", solve_call(3, 2, plain, side), 7, 12 + i, 0, NULL);
+        }
+}
+
+/* An overflow, and 0 / 0 where a negative tolerance lets a value of 0 count. */
+static void solve_mark(void)
+{
+    double tiny[3] = {0, 1, 1}, side[2] = {0, 0};
+    expect("0 / 0", with_tolerance(solve_call(1, 1, tiny, side), -1), 8, 2, 0, NULL);
+    tiny[0] = power_of_two(-1074);
+    side[0] = power_of_two(1023);
+    expect("overflow", solve_call(1, 1, tiny, side), 8, 2, 0, NULL);
+}
+
+void test_solve(void)
+{
+    solve_worked();
+    solve_order_of_tests();
+    solve_lengths();
+    solve_not_finite();
+    solve_mark();
+}
+
+static void inverse_worked(void)
+{
+    double both[4] = {0.5, 0, 0, 0.25}, larger[4] = {0, 0, 0, 0.25}, none[4] = {0, 0, 0, 0};
+    tolerances(pseudo_inverse_call(2, 2, diagonal), both, larger, none);
+    flags(pseudo_inverse_call(2, 2, diagonal), both);
+    expect("0 by 2", pseudo_inverse_call(0, 2, NULL), 0, 0, 0, NULL);
+    expect("2 by 0", pseudo_inverse_call(2, 0, NULL), 0, 0, 0, NULL);
+}
+
+static void inverse_order_of_tests(void)
+{
+    double decomposition[12];
+    struct call c = pseudo_inverse_call(3, 2, decomposition);
+    int i;
+    for (i = 0; i < 12; i++)
+        decomposition[i] = plain[i];
+    decomposition[3] = not_a_number();
+    c.m = SIZE_MAX;
+    c.n = 257;
+    c.u = c.vt = 0;
+    c.in_len = 11;
+    c.out_len = 7;
+    expect("m too large", c, 1, 0, 0, NULL);
+    c.m = 3;
+    expect("n of 257", c, 1, 0, 0, NULL);
+    c.n = 2;
+    expect("neither factor", c, 3, 0, 0, NULL);
+    c.u = 1;
+    expect("no V^T", c, 4, 0, 0, NULL);
+    c.vt = 1;
+    expect("decomposition of 11", c, 6, 0, 0, NULL);
+    c.in_len = 12;
+    expect("answer of 7", c, 6, 1, 0, NULL);
+    c.out_len = 6;
+    expect("NaN", c, 7, 3, 0, NULL);
+    decomposition[3] = 4;
+    expect("mended", c, 0, 0, 0, NULL);
+}
+
+static void inverse_lengths(void)
+{
+    struct call c = pseudo_inverse_call(3, 2, plain);
+    expect_length("decomposition", &c, &c.in_len, 0);
+    expect_length("answer", &c, &c.out_len, 1);
+}
+
+static void inverse_not_finite(void)
+{
+    size_t i;
+    for (i = 0; i < 12; i++)
+        expect_not_finite("decomposition", pseudo_inverse_call(3, 2, plain), i, i);
+}
+
+static void inverse_mark(void)
+{
+    double tiny[3] = {0, 1, 1};
+    expect("1 / 0", with_tolerance(pseudo_inverse_call(1, 1, tiny), -1), 8, 2, 0, NULL);
+    tiny[0] = power_of_two(-1074);
+    expect("overflow", pseudo_inverse_call(1, 1, tiny), 8, 2, 0, NULL);
+}
+
+void test_pseudo_inverse(void)
+{
+    inverse_worked();
+    inverse_order_of_tests();
+    inverse_lengths();
+    inverse_not_finite();
+    inverse_mark();
+}

@@ -1,0 +1,90 @@
+# The C side: the archive, the example and the test of the boundary, with the toolchain alone. Programs are
+# x86-64; where the machine is not, the toolchain has an emulator and they run under it.
+#
+#   make archive     dist/libcrewelmarsh.a and dist/crewelmarsh.h
+#   make example     builds and runs examples/codec.c
+#   make boundary    the test of the C boundary: header, names, every entry and answer
+#
+# ARCHIVE=PATH tests another archive with the same entries.
+
+RT ?= rt
+KIT ?= $(shell dirname "$$(dirname "$$($(RT) doc)")")
+OWN := $(KIT)/on/$(shell uname -m)
+TOOLCHAIN := $(OWN)/toolchain
+CLANG := $(TOOLCHAIN)/bin/clang
+LIBRARY := $(TOOLCHAIN)/lib
+EMULATOR := $(wildcard $(TOOLCHAIN)/bin/qemu-x86_64)
+LINK = $(OWN)/bin/rattle-link --target x86_64-unknown-linux-gnu --toolchain $(TOOLCHAIN)
+RUN = $(EMULATOR) $(LIBRARY)/ld-linux-x86-64.so.2 --library-path $(LIBRARY)
+
+# rt staticlib proves its crate anew at each call, so it is asked only where a file has changed.
+CRATE_FILES := $(shell find crates -name must-fail -prune -o -type f -print)
+ARCHIVE ?= dist/libcrewelmarsh.a
+ENTRIES := crewelmarsh_symmetric_eigen crewelmarsh_svd crewelmarsh_solve crewelmarsh_pseudo_inverse crewelmarsh_qr_q
+
+# How many checks the boundary's test makes.
+BOUNDARY_CHECKS := 8668
+BOUNDARY_PARTS := boundary check eigen svd solve qr sizes numbers header header_cpp
+BOUNDARY_OBJECTS := $(BOUNDARY_PARTS:%=build/tests/%.o)
+
+TARGET_FLAGS := --target=x86_64-unknown-linux-gnu -march=x86-64 --no-default-config \
+    -nostdinc -isystem tools/headers -Iinclude -O2 -ffp-contract=off -fPIC
+WARNINGS := -Wall -Wextra -Wpedantic -Werror
+C99 = $(CLANG) $(TARGET_FLAGS) $(WARNINGS) -std=c99
+CPLUSPLUS = $(CLANG) $(TARGET_FLAGS) $(WARNINGS) -x c++ -std=c++98
+HEADERS := include/crewelmarsh.h $(wildcard tools/headers/*.h)
+
+.PHONY: archive example boundary boundary-names boundary-header boundary-run FORCE
+
+archive: dist/libcrewelmarsh.a dist/crewelmarsh.h
+
+dist/libcrewelmarsh.a: crates.txt $(CRATE_FILES)
+	$(RT) staticlib crewelmarsh
+	@mkdir -p dist
+	cp target/staticlib/libcrewelmarsh.a $@
+
+dist/crewelmarsh.h: include/crewelmarsh.h
+	@mkdir -p dist
+	cp $< $@
+
+example: build/examples/codec
+	@$(RUN) $<
+
+build/examples/codec: build/examples/codec.o $(ARCHIVE) FORCE
+	@$(LINK) -o $@ $(filter-out FORCE,$^) 2>$@.log || { cat $@.log; exit 1; }
+
+build/examples/%.o: examples/%.c $(HEADERS)
+	@mkdir -p $(@D)
+	@$(C99) -c $< -o $@
+
+boundary: boundary-names boundary-header boundary-run
+
+boundary-names: $(ARCHIVE)
+	@sh tests/exports.sh $(ARCHIVE) $(ENTRIES)
+
+# The header alone, in each language that a caller may use.
+boundary-header: $(HEADERS)
+	@for std in c99 c11 c23; do \
+	    $(C99) -std=$$std -fsyntax-only tests/header.c || exit 1; done
+	@for std in c++98 c++11 c++17 c++23; do \
+	    $(CPLUSPLUS) -std=$$std -fsyntax-only tests/header.c || exit 1; done
+	@echo 'header: C99, C11, C23, C++98, C++11, C++17, C++23, no warning'
+
+# Both the status and the count: a test that ran fewer checks did not run.
+boundary-run: build/tests/boundary
+	@if ! $(RUN) $< >build/tests/boundary.out; then cat build/tests/boundary.out; exit 1; fi
+	@cat build/tests/boundary.out
+	@tail -n 1 build/tests/boundary.out | grep -qx 'boundary: $(BOUNDARY_CHECKS) checks, 0 failed' || \
+	    { echo 'boundary: $(BOUNDARY_CHECKS) checks were expected'; exit 1; }
+
+# Linked anew each time, whichever archive is asked for.
+build/tests/boundary: $(BOUNDARY_OBJECTS) $(ARCHIVE) FORCE
+	@$(LINK) -o $@ $(filter-out FORCE,$^) 2>$@.log || { cat $@.log; exit 1; }
+
+build/tests/%.o: tests/%.c tests/boundary.h $(HEADERS)
+	@mkdir -p $(@D)
+	@$(C99) -c $< -o $@
+
+build/tests/header_cpp.o: tests/header.c $(HEADERS)
+	@mkdir -p $(@D)
+	@$(CPLUSPLUS) -c $< -o $@

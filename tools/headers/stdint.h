@@ -1,0 +1,7 @@
+#ifndef HEADERS_STDINT_H
+#define HEADERS_STDINT_H
+typedef __UINT32_TYPE__ uint32_t;
+typedef __UINT64_TYPE__ uint64_t;
+#define SIZE_MAX __SIZE_MAX__
+#define UINT64_C(n) n##UL
+#endif

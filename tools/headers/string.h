@@ -1,0 +1,14 @@
+#ifndef HEADERS_STRING_H
+#define HEADERS_STRING_H
+#include <stddef.h>
+#ifdef __cplusplus
+extern "C" {
+#endif
+int memcmp(const void *a, const void *b, size_t n);
+int strcmp(const char *a, const char *b);
+void *memcpy(void *to, const void *from, size_t n);
+void *memset(void *to, int byte, size_t n);
+#ifdef __cplusplus
+}
+#endif
+#endif
