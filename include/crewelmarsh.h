@@ -27,7 +27,7 @@
  *
  * `answer` says what happened, `place` where, `count` how much work was done. Test `answer` after
  * every call: only 0 leaves a result. The same call gives the same bits, whatever work, result and
- * answer held before. No entry writes an infinity or a NaN.
+ * answer held before (T2 and T14 of docs/PROMISES.md). No entry writes an infinity or a NaN (T11).
  *
  *     answer   arrays afterwards
  *     0        result or answer full, work all +0.0

@@ -1,2 +1,4 @@
 -- The answer of a call, and the checks that several calls share.
 pub mod Answers
+pub mod Early
+pub mod OutcomeLaws

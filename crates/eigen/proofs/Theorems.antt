@@ -1,56 +1,34 @@
 -- What is so of every call of `symmetric_eigen`, by its promise alone. Assumes nothing.
 -- `one-outcome`: the promise leaves room for one outcome. `lower-only`: what stands above the diagonal, and what work and result held before, change nothing.
 -- `limit-raised`: an outcome that is not refusal 9 is the outcome at every higher limit. `marks-only-stop`: where it is done, the result is document 000's own.
-use mathlib.Core.Path.{_≡_, refl, sym, ap, _∙_}
-use mathlib.Core.Bool.{Bool, true, false, cond, not, true≢false}
-use mathlib.Core.List.{[], _++_}
+use mathlib.Core.Path.{_≡_, sym, ap, _∙_, refl}
+use mathlib.Core.Bool.{Bool, true, false, cond, not}
+use mathlib.Core.List.{_++_}
 use Prim.Native.Nat.{ℕ, _+_, _*_, _≤_, _<_}
 use native.Mathlib.Omega.{arith}
-use borrow.Author.Tests.{le-ltb, le-leb, eq-eqb, eqb-true, eqb-false}
+use borrow.Author.Tests.{eqb-false}
 use lib.Dec.{ltb, eqb}
 use lib.ListN.{length, length-replicate}
 use Rattle.grid.specs.Real.{Vec, zero64, zeros}
 use Rattle.grid.specs.Cell.{Sized, at2, entry}
 use Rattle.leaves.specs.Scan.{firstBadLower, lower-same}
 use Rattle.answers.specs.Answers.{done, passed, limitGood, lengths, refusal7}
+use Rattle.answers.specs.OutcomeLaws.{right-limit, Settled, always, by-test}
 use Rattle.answers.specs.declared.Answer.{Answer}
 use Rattle.tred.specs.Tred.{tred2}
 use Rattle.tred.specs.Lower.{lower}
-use Rattle.tred.specs.Sizes.{tred2-square, tred2-beside}
-use Rattle.ql.specs.Ql.{tql2}
 use Rattle.ql.specs.Limit.{tql2-limit}
-use Rattle.ql.specs.Document.{tql2-square}
-use Rattle.ql.specs.Marks.{tql2-document}
-use Rattle.eigen.specs.Eigen.{columns, mark0, marked, decomposed, cleared, given, entered, eigen, rows}
+use Rattle.eigen.specs.Eigen.{columns, mark0, marked, decomposed, cleared, given, entered, eigen}
 use Rattle.eigen.specs.Copies.{columns-cell, columns-long}
-use Rattle.eigen.specs.Mirror.{rows-long, rows-entry}
-use Rattle.eigen.specs.Document.{Worked, SymmetricEigen, empty, worked, symmetric-eigen-once}
-
--- what a call gives: its answer, work and result afterwards; and what is promised of it
-abbrev Outcome : Type 0
-Outcome = Answer × Vec × Vec
-
-abbrev Promised : ℕ → ℕ → Vec → Vec → Vec → Outcome → Type 0
-Promised n limit a work result x = x ≡ eigen n limit a work result
+use Rattle.eigen.specs.Document.{SymmetricEigen, symmetric-eigen-once}
+use Rattle.eigen.specs.Exact.{Outcome, Promised, Fit}
+use Rattle.eigen.specs.ExactLaws.{enters, given-answer, done-document}
+use Rattle.eigen.specs.Result.{gave}
 
 one-outcome : (n limit : ℕ) (a work result : Vec) (x y : Outcome) → Promised n limit a work result x → Promised n limit a work result y → x ≡ y
 one-outcome n limit a work result x y p q = p ∙ sym q
 
 -- ---- what stands above the diagonal
-
--- a call that passes the checks
-record Fit (n limit : ℕ) (a work result : Vec) : Type 0 where
-  small : n ≤ 256
-  least : 1 ≤ limit
-  most : limit ≤ 60
-  square : length a ≡ n * n
-  works : length work ≡ n
-  room : length result ≡ n + n * n
-
-enters : (n limit : ℕ) (a work result : Vec) → Fit n limit a work result → eigen n limit a work result ≡ entered n limit a
-unfolding eigen limitGood lengths
-enters n limit a work result f =
-    simp (le-ltb 256 n (f .small), le-leb 1 limit (f .least), le-leb limit 60 (f .most), eq-eqb (length a) (n * n) (f .square), eq-eqb (length work) n (f .works), eq-eqb (length result) (n + n * n) (f .room))
 
 -- two matrices that agree on and below the diagonal
 abbrev Alike : ℕ → Vec → Vec → Type 0
@@ -103,21 +81,6 @@ lower-only-calls n limit a b work result work′ result′ x y f g h p q = p ∙
 
 -- ---- a higher limit
 
--- y is x, unless x is refused with 9
-module _ {S : Type 0} (answer : S → ℕ) where
-  record Settled (x y : S) : Type 0 where
-    same : (answer x ≡ 9 → ⊥) → y ≡ x
-
-  always : {x : S} → Settled x x
-  always = record { same = λ h. refl }
-
-  -- two choices by one test
-  by-test : {x y s t : S} (b c : Bool) → b ≡ c → Settled x s → Settled y t → Settled (cond b x y) (cond c s t)
-  by-test true true e p q = p
-  by-test true false e p q = absurd (true≢false e)
-  by-test false true e p q = absurd (true≢false (sym e))
-  by-test false false e p q = q
-
 abbrev answer3 : Outcome → ℕ
 answer3 x = x .0 .answer
 
@@ -127,14 +90,6 @@ answer4 x = x .0 .answer
 marked-limit : (n k m : ℕ) (x : Vec × Vec × Vec) → 1 ≤ k → k ≤ m → Settled answer4 (marked n k x) (marked n m x)
 unfolding marked
 marked-limit n k m x z l = by-test answer4 (mark0 n (x .0) (x .1) (x .2)) _ refl (always answer4) (record { same = tql2-limit n k m x z l })
-
-given-answer : (n : ℕ) (x : Answer × Vec × Vec × Vec) → given n x .0 ≡ x .0
-unfolding given
-given-answer n x = go (passed (x .0))
-  where
-    go : (b : Bool) → cond b (x .0, zeros n, x .2 ++ rows n (x .1)) (cleared n (x .0)) .0 ≡ x .0
-    go true = refl
-    go false = refl
 
 given-limit : (n : ℕ) (x y : Answer × Vec × Vec × Vec) → Settled answer4 x y → Settled answer3 (given n x) (given n y)
 given-limit n x y s = record { same = λ h. ap (given n) (s .same (λ e. h (ap (λ (t : Answer). t .answer) (given-answer n x) ∙ e))) }
@@ -146,15 +101,11 @@ entered-limit n k m a z l =
     (by-test answer3 (eqb n 0) _ refl (always answer3) (given-limit n _ _ (marked-limit n k m _ z l)))
     (always answer3)
 
-good-limit : (k : ℕ) → 1 ≤ k → k ≤ 60 → limitGood k ≡ true
-unfolding limitGood
-good-limit k p q = simp (le-leb 1 k p, le-leb k 60 q)
-
 eigen-limit : (n k m : ℕ) (a work result : Vec) → 1 ≤ k → k ≤ m → m ≤ 60 → Settled answer3 (eigen n k a work result) (eigen n m a work result)
 unfolding eigen
 eigen-limit n k m a work result z l s =
     by-test answer3 (ltb 256 n) _ refl (always answer3)
-    (by-test answer3 (not (limitGood k)) _ (ap not (good-limit k z (omega arith) ∙ sym (good-limit m (omega arith) s))) (always answer3)
+    (by-test answer3 (not (limitGood k)) _ (ap not (right-limit k z (omega arith) ∙ sym (right-limit m (omega arith) s))) (always answer3)
     (by-test answer3 (passed (lengths (length a) (n * n) (length work) n (length result) (n + n * n))) _ refl (entered-limit n k m a z l) (always answer3)))
 
 limit-raised : (n k m : ℕ) (a work result : Vec) → 1 ≤ k → k ≤ m → m ≤ 60 → (eigen n k a work result .0 .answer ≡ 9 → ⊥)
@@ -175,89 +126,10 @@ record Documents (n : ℕ) (a result : Vec) : Type 0 where
   eigens : SymmetricEigen n a values vectors
   whole : result ≡ values ++ vectors
 
--- what holds of an outcome: where it is done, its result is document 000's
-record Says (n : ℕ) (a : Vec) (x : Outcome) : Type 0 where
-  says : x .0 .answer ≡ 0 → Documents n a (x .2)
-
-either : {n : ℕ} {a : Vec} {x y : Outcome} (b : Bool) → Says n a x → Says n a y → Says n a (cond b x y)
-either true p q = p
-either false p q = q
-
--- an answer that does not pass is not 0
-refuses : (n : ℕ) (a : Vec) (x : Answer) (v w : Vec) → passed x ≡ false → Says n a (x, v, w)
-refuses n a x v w e = record { says = λ q. absurd (eqb-false (x .answer) 0 e q) }
-
--- a check, and what comes after it
-checks : (n : ℕ) (a : Vec) (x : Answer) (y : Outcome) (v w : Vec) → Says n a y → Says n a (cond (passed x) y (x, v, w))
-checks n a x y v w s = go (passed x) refl
-  where
-    go : (b : Bool) → passed x ≡ b → Says n a (cond b y (x, v, w))
-    go true e = s
-    go false e = refuses n a x v w e
-
--- the run
-abbrev ends : ℕ → ℕ → Vec → Answer × Vec × Vec × Vec
-ends n limit a = decomposed n limit a (zeros (n * n), zeros n, zeros n)
-
-run-says : (n limit : ℕ) (a : Vec) → 0 < n → ends n limit a .0 .answer ≡ 0 → Worked n a (ends n limit a .2) (rows n (ends n limit a .1))
-unfolding decomposed marked
-run-says n limit a z = go (mark0 n (x .0) (x .1) (x .2)) _ (λ q. omega arith)
-  where
-    s : Vec × Vec × Vec
-    s = (columns n a (zeros (n * n)), zeros n, zeros n)
-
-    x : Vec × Vec × Vec
-    x = tred2 n s
-
-    y : Answer × Vec × Vec × Vec
-    y = tql2 n limit x
-
-    go : (b : Bool) (bad : Answer × Vec × Vec × Vec) → (bad .0 .answer ≡ 0 → ⊥) → cond b bad y .0 .answer ≡ 0 → Worked n a (cond b bad y .2) (rows n (cond b bad y .1))
-    go true bad h q = absurd (h q)
-    go false bad h q =
-        let r = tql2-document n limit x z (tred2-beside n s ∙ length-replicate n zero64) q in
-        let l : length (y .1) ≡ n * n = tql2-square n x (y .1, y .2, y .3) r ∙ tred2-square n s ∙ sized n a .square in
-        record {
-          some = z;
-          last = (y .1, y .2, y .3);
-          ran = r;
-          values-are = refl;
-          long = rows-long n (y .1) l;
-          vectors-are = λ i j p q. rows-entry n (y .1) i j l p q;
-        }
-
-given-says : (n limit : ℕ) (a : Vec) → 0 < n → Says n a (given n (ends n limit a))
-unfolding given
-given-says n limit a z = go (passed (ends n limit a .0)) refl
-  where
-    y : Answer × Vec × Vec × Vec
-    y = ends n limit a
-
-    go : (b : Bool) → passed (y .0) ≡ b → Says n a (cond b (y .0, zeros n, y .2 ++ rows n (y .1)) (cleared n (y .0)))
-    go true e = record { says = λ q. record { values = y .2; vectors = rows n (y .1); eigens = worked (run-says n limit a z q); whole = refl } }
-    go false e = refuses n a (y .0) _ _ e
-
-entered-says : (n limit : ℕ) (a : Vec) → Says n a (entered n limit a)
-unfolding entered
-entered-says n limit a = checks n a (refusal7 (firstBadLower n a)) _ _ _ (go (eqb n 0) refl)
-  where
-    go : (b : Bool) → eqb n 0 ≡ b → Says n a (cond b (cleared n (done 0)) (given n (ends n limit a)))
-    go true e =
-        let z : n ≡ 0 = eqb-true n 0 e in
-        record { says = λ q. record { values = []; vectors = []; eigens = empty z refl refl; whole = ap (λ (k : ℕ). zeros (k + k * k)) z } }
-    go false e = given-says n limit a (above (eqb-false n 0 e))
-      where
-        above : (n ≡ 0 → ⊥) → 0 < n
-        above d = omega arith
-
-eigen-says : (n limit : ℕ) (a work result : Vec) → Says n a (eigen n limit a work result)
-unfolding eigen
-eigen-says n limit a work result =
-    either (ltb 256 n) (refuses n a _ work result refl)
-    (either (not (limitGood limit)) (refuses n a _ work result refl) (checks n a (lengths (length a) (n * n) (length work) n (length result) (n + n * n)) (entered n limit a) work result (entered-says n limit a)))
-
 marks-only-stop : (n limit : ℕ) (a work result : Vec) → eigen n limit a work result .0 .answer ≡ 0 → Documents n a (eigen n limit a work result .2)
-marks-only-stop n limit a work result = eigen-says n limit a work result .says
+marks-only-stop n limit a work result z =
+    let s = gave n limit a work result z in
+    record { values = s .values; vectors = s .vectors; eigens = done-document n limit a _ _ _ (s .exactly); whole = s .whole }
 
 -- so where document 000 has a result, and the call is done, that is the call's
 marks-only-stop-calls : (n limit : ℕ) (a work result values vectors : Vec) (x : Outcome) → Promised n limit a work result x → x .0 .answer ≡ 0

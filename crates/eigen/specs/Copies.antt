@@ -1,38 +1,15 @@
--- Cells stand at places of their own. So `columns` puts each entry of a matrix into its cell (`columns-cell`). Assumes nothing.
-use mathlib.Core.Path.{_≡_, sym, ap, _∙_, subst}
-use Prim.Native.Nat.{ℕ, _+_, _*_, _/_, _%_, _<_}
-use native.Mathlib.Nat.{mod-eq-of-lt, div-eq-of-lt, mul-add-mod-self-right, mul-add-div-right}
+-- `columns` puts each entry of a matrix into its cell (`columns-cell`). Laws only.
+use mathlib.Core.Path.{_≡_, sym, ap, _∙_}
+use Prim.Native.Nat.{ℕ, _+_, _*_, _<_}
 use native.Mathlib.Decide.{ℕ-discrete}
 use native.Mathlib.Omega.{arith}
-use lib.Ieee.{Float, nan}
+use lib.Ieee.{nan}
 use lib.ListN.{length, length-set}
-use lib.Seq.{getD-set-same, getD-set-other}
+use lib.Seq.{getD-set-other}
 use Rattle.grid.specs.Loop.{upto-both}
 use Rattle.grid.specs.Real.{Vec, at}
-use Rattle.grid.specs.Cell.{at2, put2, entry, cell}
+use Rattle.grid.specs.Cell.{at2, entry, one-place, put-here}
 use Rattle.eigen.specs.Eigen.{copyStep, copyRow, columns}
-
--- ---- one cell at a place
-
-place-row : (n i j : ℕ) → i < n → (j * n + i) % n ≡ i
-place-row n i j h = mul-add-mod-self-right j n i ∙ mod-eq-of-lt h
-
-place-column : (n i j : ℕ) → i < n → (j * n + i) / n ≡ j
-place-column n i j h = mul-add-div-right (omega arith) j i ∙ omega (arith, div-eq-of-lt h)
-
-pub one-place : (n i j r c : ℕ) → i < n → r < n → j * n + i ≡ c * n + r → (i ≡ r) × (j ≡ c)
-one-place n i j r c p q e = (
-  sym (place-row n i j p) ∙ ap (λ (k : ℕ). k % n) e ∙ place-row n r c q,
-  sym (place-column n i j p) ∙ ap (λ (k : ℕ). k / n) e ∙ place-column n r c q,
-)
-
-pub put-here : (v : Vec) (n i j : ℕ) (x : Float) → length v ≡ n * n → i < n → j < n → at2 (put2 v n i j x) n i j ≡ x
-put-here v n i j x l p q = getD-set-same v (j * n + i) x nan (subst (λ (k : ℕ). j * n + i < k) (sym l) (cell n n j i q p))
-
-pub put-elsewhere : (v : Vec) (n i j r c : ℕ) (x : Float) → i < n → r < n → ((i ≡ r) × (j ≡ c) → ⊥) → at2 (put2 v n i j x) n r c ≡ at2 v n r c
-put-elsewhere v n i j r c x p q d = getD-set-other v (j * n + i) (c * n + r) x nan (λ e. d (one-place n i j r c p q (sym e)))
-
--- ---- the copy
 
 -- the cells that are past once rows 0 .. i - 1 are, and of row i the first j
 pub data Past (i j r c : ℕ) : Type 0 where

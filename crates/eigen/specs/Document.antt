@@ -28,7 +28,7 @@ pub data SymmetricEigen (n : ℕ) (a values vectors : Vec) : Type 0 where
 
 -- ---- one result at most
 
-same-vectors : (n : ℕ) (v w : Vec) → 0 < n → length v ≡ n * n → length w ≡ n * n → ((i j : ℕ) → i < n → j < n → entry v n i j ≡ entry w n i j) → v ≡ w
+pub same-vectors : (n : ℕ) (v w : Vec) → 0 < n → length v ≡ n * n → length w ≡ n * n → ((i j : ℕ) → i < n → j < n → entry v n i j ≡ entry w n i j) → v ≡ w
 same-vectors n v w z p q h = ext-getD nan v w (p ∙ sym q)
     (λ k l. subst (λ (m : ℕ). at v m ≡ at w m) (div-add-mod' k n) (h (k / n) (k % n) (div-lt-iff-lt-mul z .1 (subst (λ (m : ℕ). k < m) p l)) (mod-lt k z)))
 

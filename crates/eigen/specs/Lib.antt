@@ -4,3 +4,7 @@ pub mod Lent
 pub mod Copies
 pub mod Mirror
 pub mod Document
+pub mod Exact
+pub mod ExactLaws
+pub mod Result
+pub mod Old

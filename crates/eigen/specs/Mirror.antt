@@ -7,9 +7,9 @@ use lib.Ieee.{Float}
 use lib.ListN.{length, length-set}
 use Rattle.grid.specs.Loop.{upto-both}
 use Rattle.grid.specs.Real.{Vec}
-use Rattle.grid.specs.Cell.{at2, put2, entry}
+use Rattle.grid.specs.Cell.{at2, put2, entry, put-here, put-elsewhere}
 use Rattle.eigen.specs.Eigen.{mirrorStep, mirrorRow, rows}
-use Rattle.eigen.specs.Copies.{Past, above, beside, put-here, put-elsewhere}
+use Rattle.eigen.specs.Copies.{Past, above, beside}
 
 module _ (n : ℕ) (v : Vec) where
   -- the cells below the diagonal that are past have changed places with their mirrors, and the others have not

@@ -34,6 +34,11 @@ unfolding table
 length-table f zero = refl
 length-table f (suc k) = simp length-append (rw (length-table f k) (add-one k))
 
+pub length-rows : (f : ℕ → Vec) (m n : ℕ) → ((k : ℕ) → length (f k) ≡ m) → length (rows f n) ≡ n * m
+unfolding rows
+length-rows f m zero h = sym (zero-mul m)
+length-rows f m (suc n) h = simp length-append (omega (arith, length-rows f m n h, h n, suc-mul n m))
+
 -- element k
 pub at-table : (f : ℕ → Float) (n k : ℕ) → k < n → at (table f n) k ≡ f k
 unfolding table

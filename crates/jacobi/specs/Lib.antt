@@ -2,4 +2,7 @@
 pub mod Jacobi
 pub mod Place
 pub mod Run
+pub mod Document
 pub mod Kept
+pub mod Told
+pub mod ToldLaws

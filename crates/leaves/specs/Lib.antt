@@ -4,3 +4,6 @@ pub mod Parts
 pub mod Nearest
 pub mod Leaf
 pub mod Scan
+pub mod Finite
+pub mod FiniteLaws
+pub mod Compare

@@ -1,17 +1,16 @@
 -- Document 000's own `tql2`: its loops over the same steps as ours, with no mark and no limit. It may go on for ever, so it is a relation between what
 -- comes in and what comes out; and it has one result at most (`tql2-once`). Assumes nothing.
 use mathlib.Core.Path.{_≡_, refl, sym, ap, _∙_, subst}
-use mathlib.Core.Bool.{Bool, true, false, cond, true≢false}
-use Prim.Native.Nat.{ℕ, zero, suc, _+_, _-_}
-use lib.Dec.{ltb, eqb}
+use mathlib.Core.Bool.{Bool, true, false, true≢false}
+use Prim.Native.Nat.{ℕ, zero, suc}
+use lib.Dec.{ltb}
 use lib.Ieee.{Float}
-use lib.ListN.{length, set, length-set}
-use Rattle.grid.specs.Loop.{first, upto-keeps, fall, drops}
+use lib.ListN.{set}
+use Rattle.grid.specs.Loop.{first}
 use Rattle.grid.specs.Real.{Vec, zero64, at, _⊕_}
 use Rattle.leaves.specs.Leaf.{magnitude, larger}
-use Rattle.pass.specs.Pass.{rotStep, rotated, spin, spins, transformed, tiny}
-use Rattle.pass.specs.declared.Spin.{Spin}
-use Rattle.ql.specs.Ql.{movedUp, least, swapStep, swapped, sortStep, sorted}
+use Rattle.pass.specs.Pass.{transformed, tiny}
+use Rattle.ql.specs.Ql.{movedUp, sorted}
 
 -- what its loops carry
 pub record Carried : Type 0 where
@@ -89,50 +88,3 @@ ran-once n x (suc l) y z (more p s) (more q t) = turned-once n l _ y z (subst (�
 pub tql2-once : (n : ℕ) (x y z : Vec × Vec × Vec) → Tql2 n x y → Tql2 n x z → y ≡ z
 tql2-once n x y z p q =
     p .values ∙ ap (λ (c : Carried). (sorted n (c .v, c .d) .0, sorted n (c .v, c .d) .1, c .e)) (ran-once n (begun n x) n (p .last) (q .last) (p .ran) (q .ran)) ∙ sym (q .values)
-
--- ---- it leaves v as long as it was
-
-rotated-square : (n i : ℕ) (c s : Float) (v : Vec) → length (rotated n i c s v) ≡ length v
-unfolding rotated
-rotated-square n i c s v =
-    upto-keeps (λ u t. length u ≡ length v) (rotStep n i c s) (rotStep n i c s) 0 n v v (λ k u t a b q. simp length-set q) refl
-
-drops-square : (n l k : ℕ) (x : Spin × Vec × Vec × Vec) → length (drops (spin n) l k x .1) ≡ length (x .1)
-unfolding drops spin
-drops-square n l zero x = refl
-drops-square n l (suc k) x = drops-square n l k (spin n (l + k) x) ∙ rotated-square n (l + k) _ _ (x .1)
-
-passed-square : (n l m : ℕ) (x : Carried) → length (passed n l m x .v) ≡ length (x .v)
-unfolding transformed spins fall
-passed-square n l m x = drops-square n l (m - l) _
-
-looped-square : (n l m : ℕ) {x y : Carried} → Looped n l m x y → length (y .v) ≡ length (x .v)
-looped-square n l m {x} (once p) = passed-square n l m x
-looped-square n l m {x} (again p a) = looped-square n l m a ∙ passed-square n l m x
-
-turned-square : (n l : ℕ) {x y : Carried} → Turned n l x y → length (y .v) ≡ length (x .v)
-turned-square n l (at-once p) = refl
-turned-square n l (by-passes p a) = looped-square n l _ a
-
-ran-square : (n : ℕ) {x : Carried} {l : ℕ} {y : Carried} → Ran n x l y → length (y .v) ≡ length (x .v)
-ran-square n none = refl
-ran-square n (more {l} p s) = turned-square n l s ∙ ran-square n p
-
-swapped-square : (n i k : ℕ) (v : Vec) → length (swapped n i k v) ≡ length v
-unfolding swapped
-swapped-square n i k v = upto-keeps (λ u t. length u ≡ length v) (swapStep n i k) (swapStep n i k) 0 n v v (λ j u t a b q. simp length-set q) refl
-
-sort-square : (n i : ℕ) (x : Vec × Vec) → length (sortStep n i x .0) ≡ length (x .0)
-unfolding sortStep
-sort-square n i x = go (eqb (least n i (x .1) .k) i) (swapped n i _ (x .0), _) (swapped-square n i _ (x .0))
-  where
-    go : (b : Bool) (y : Vec × Vec) → length (y .0) ≡ length (x .0) → length (cond b x y .0) ≡ length (x .0)
-    go true y h = refl
-    go false y h = h
-
-sorted-square : (n : ℕ) (x : Vec × Vec) → length (sorted n x .0) ≡ length (x .0)
-unfolding sorted
-sorted-square n x = upto-keeps (λ u t. length (u .0) ≡ length (x .0)) (sortStep n) (sortStep n) 0 (n - 1) x x (λ i u t a b q. sort-square n i u ∙ q) refl
-
-pub tql2-square : (n : ℕ) (x y : Vec × Vec × Vec) → Tql2 n x y → length (y .0) ≡ length (x .0)
-tql2-square n x y p = ap (λ (z : Vec × Vec × Vec). length (z .0)) (p .values) ∙ sorted-square n (p .last .v, p .last .d) ∙ ran-square n (p .ran)

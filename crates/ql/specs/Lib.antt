@@ -4,4 +4,9 @@ pub mod Bounds
 pub mod Limit
 pub mod Last
 pub mod Document
+pub mod Long
+pub mod Told
+pub mod ToldLaws
 pub mod Marks
+pub mod Arranged
+pub mod SortLaws

@@ -1,8 +1,7 @@
--- Marks and the limit only stop: a run that is done has done what document 000's own `tql2` does, which has neither (`tql2-document`); and at each l that a run
--- comes to, document 000's own test for a split holds at n - 1 (`test-at-last`). Assumes nothing.
+-- The outcome of tql2 is the one that is told (`told`), so marks and limit only stop document 000's own (`tql2-document`); and at each l that a run comes to, document 000's test holds at n - 1 (`test-at-last`). Laws only.
 use mathlib.Core.Path.{_≡_, refl, sym, ap, _∙_, subst}
-use mathlib.Core.Bool.{Bool, true, false, cond, not, _||_, true≢false}
-use Prim.Native.Nat.{ℕ, zero, suc, _-_, _≤_, _<_}
+use mathlib.Core.Bool.{Bool, true, false, cond, not, true≢false}
+use Prim.Native.Nat.{ℕ, zero, suc, _+_, _*_, _-_, _≤_, _<_}
 use native.Mathlib.Numerals.{add-one}
 use native.Mathlib.Decide.{ℕ-discrete}
 use native.Mathlib.Omega.{arith}
@@ -13,17 +12,19 @@ use lib.ListN.{length, length-set}
 use lib.Seq.{getD-set-same, getD-set-other}
 use Rattle.grid.specs.Loop.{rounds, upto, upto-both}
 use Rattle.grid.specs.Real.{Vec, zero64, at, _⊕_}
-use Rattle.leaves.specs.Leaf.{magnitude, larger, isFinite}
-use Rattle.leaves.specs.Scan.{firstBad, isBad, firstBad-none}
-use Rattle.leaves.specs.declared.Bad.{Bad}
-use Rattle.leaves.specs.declared.Bad.the-variants.{At, Nowhere}
+use Rattle.leaves.specs.Leaf.{magnitude, larger}
+use Rattle.leaves.specs.Scan.{firstBad, firstBadCell, isBad}
+use Rattle.leaves.specs.FiniteLaws.{scan-finite, finite-scan, or-false, cells-finite, finite-cells}
 use Rattle.answers.specs.Answers.{answered, done}
 use Rattle.answers.specs.declared.Answer.{Answer}
 use Rattle.pass.specs.Pass.{transformed, tiny, mark1, verdict, pass}
 use Rattle.ql.specs.Ql.{State, fresh, movedUp, opened, ended, iterated, stopping, released, closed, stage, turn, run, mark2, sorted, finished, tql2}
 use Rattle.ql.specs.Bounds.{split-below}
 use Rattle.ql.specs.Last.{plus, nought, plus-zero, nought-zero, plus-larger, tiny-last, split-is, transformed-ended, moved-long, moved-last}
-use Rattle.ql.specs.Document.{Carried, begun, grown, searched, passed, settled, valued, Looped, once, again, Turned, at-once, by-passes, Ran, none, more, Tql2}
+use Rattle.ql.specs.Document.{Carried, begun, grown, searched, settled, valued, Tql2}
+use Rattle.ql.specs.Long.{ran-long}
+use Rattle.ql.specs.Told.{Sound, End, here, bad, used, Looped, no-more, stop, once, again, Turned, at-once, by-passes, by-mark, by-limit, Ran, none, more, Whole, Told, well, at-mark2, at-mark1, at-limit}
+use Rattle.ql.specs.ToldLaws.{Ended, code, ran-document, told-document}
 
 -- what document 000 carries, of a run's state
 abbrev carried : State → Carried
@@ -37,23 +38,21 @@ record Fine (n : ℕ) (x : State) : Type 0 where
 
 -- ---- one pass
 
-or-right : (a b : Bool) → (a || b) ≡ false → b ≡ false
-or-right true b h = absurd (true≢false h)
-or-right false b h = h
-
-none-bad : (b : Bad) → isBad b ≡ false → b ≡ Nowhere
-none-bad (At k) h = absurd (true≢false h)
-none-bad Nowhere h = refl
-
-all-finite : (d e : Vec) (k : ℕ) → mark1 d e ≡ false → k < length e → isFinite (at e k) ≡ true
+mark1-sound : (x : Carried) → mark1 (x .d) (x .e) ≡ false → Sound x
 unfolding mark1
-all-finite d e k h = firstBad-none e (none-bad (firstBad e) (or-right (isBad (firstBad d)) (isBad (firstBad e)) h)) k
+mark1-sound x h =
+    let o = or-false (isBad (firstBad (x .d))) (isBad (firstBad (x .e))) h in
+    record { values = scan-finite (x .d) (o .0); beside = scan-finite (x .e) (o .1) }
+
+sound-mark1 : (x : Carried) → Sound x → mark1 (x .d) (x .e) ≡ false
+unfolding mark1
+sound-mark1 x s = rw (finite-scan (x .d) (s .values), finite-scan (x .e) (s .beside))
 
 -- what one pass comes to
 data Passed (n : ℕ) (x y : State) : Type 0 where
-  bad : y .0 .stop ≡ 8 → Passed n x y
-  here : y .0 .stop ≡ 1 → settled (x .0 .l) (carried y) ≡ true → Fine n y → Passed n x y
-  on : y .0 .stop ≡ 0 → settled (x .0 .l) (carried y) ≡ false → Fine n y → Passed n x y
+  sees : y .0 .stop ≡ 8 → (Sound (carried y) → ⊥) → Passed n x y
+  settles : y .0 .stop ≡ 1 → Sound (carried y) → settled (x .0 .l) (carried y) ≡ true → Fine n y → Passed n x y
+  on : y .0 .stop ≡ 0 → Sound (carried y) → settled (x .0 .l) (carried y) ≡ false → Fine n y → Passed n x y
 
 one-pass : (n : ℕ) (x : State) → x .0 .l < x .0 .m → x .0 .m < n → Fine n x → Passed n x (pass n x)
 unfolding pass verdict
@@ -62,76 +61,73 @@ one-pass n x h g p = go (mark1 (y .2) (y .3)) refl (tiny (y .3) (x .0 .tst1) (x 
     y : Float × Vec × Vec × Vec
     y = transformed n (x .0 .l) (x .0 .m) (x .1, x .2, x .3)
 
-    fine : mark1 (y .2) (y .3) ≡ false → Fine n (pass n x)
-    fine q =
+    fine : Sound (carried (pass n x)) → Fine n (pass n x)
+    fine s =
         let r = transformed-ended n (x .0 .l) (x .0 .m) (n - 1) (x .1) (x .2) (x .3) h (omega arith) (omega (arith, p .long)) in
         record {
           long = r .long ∙ p .long;
-          last = r .zero (p .last) (all-finite (y .2) (y .3) (n - 1) q (omega (arith, r .long, p .long)));
+          last = r .zero (p .last) (s .beside (n - 1) (omega (arith, r .long, p .long)));
           grows = p .grows;
         }
 
     go : (a : Bool) → mark1 (y .2) (y .3) ≡ a → (b : Bool) → tiny (y .3) (x .0 .tst1) (x .0 .l) ≡ b → Passed n x (pass n x)
-    go true q b s = bad (λ i. cond (q i) 8 (cond (tiny (y .3) (x .0 .tst1) (x .0 .l)) 1 0))
-    go false q true s = here (λ i. cond (q i) 8 (cond (s i) 1 0)) s (fine q)
-    go false q false s = on (λ i. cond (q i) 8 (cond (s i) 1 0)) s (fine q)
-
-pass-carried : (n : ℕ) (x : State) → carried (pass n x) ≡ passed n (x .0 .l) (x .0 .m) (carried x)
-unfolding pass
-pass-carried n x = refl
-
-pass-at : (n : ℕ) (x : State) → (pass n x .0 .l ≡ x .0 .l) × (pass n x .0 .m ≡ x .0 .m)
-unfolding pass
-pass-at n x = (refl, refl)
+    go true q b s = sees (λ i. cond (q i) 8 (cond (tiny (y .3) (x .0 .tst1) (x .0 .l)) 1 0)) (λ f. true≢false (sym q ∙ sound-mark1 (carried (pass n x)) f))
+    go false q true s = let f = mark1-sound (carried (pass n x)) q in settles (λ i. cond (q i) 8 (cond (s i) 1 0)) f s (fine f)
+    go false q false s = let f = mark1-sound (carried (pass n x)) q in on (λ i. cond (q i) 8 (cond (s i) 1 0)) f s (fine f)
 
 -- ---- the passes at one l
 
-data Came (n l m : ℕ) (x : Carried) (y : State) : Type 0 where
-  bad : y .0 .stop ≡ 8 → Came n l m x y
-  used : y .0 .stop ≡ 0 → Came n l m x y
-  here : y .0 .stop ≡ 1 → y .0 .l ≡ l → Looped n l m x (carried y) → Fine n y → Came n l m x y
+record Came (n k : ℕ) (x y : State) : Type 0 where
+  c : ℕ
+  e : End
+  looped : Looped n (x .0 .l) (x .0 .m) k c (carried x) e (carried y)
+  stops : y .0 .stop ≡ code e
+  counts : y .0 .count ≡ x .0 .count + c
+  stays : y .0 .l ≡ x .0 .l
+  fine : y .0 .stop ≡ 1 → Fine n y
 
--- one pass more in front
-came-again : (n l m : ℕ) (x : Carried) (y : State) → settled l (passed n l m x) ≡ false → Came n l m (passed n l m x) y → Came n l m x y
-came-again n l m x y s (Came.bad q) = Came.bad q
-came-again n l m x y s (used q) = used q
-came-again n l m x y s (Came.here q e a p) = Came.here q e (again s a) p
-
-rounds-came : (n k l m : ℕ) (x : State) → l < m → m < n → x .0 .l ≡ l → x .0 .m ≡ m → x .0 .stop ≡ 0 → Fine n x → Came n l m (carried x) (rounds (pass n) ended k x)
-unfolding rounds
-rounds-came n zero l m x h g el em z p = used z
-rounds-came n (suc k) l m x h g el em z p =
-    go (one-pass n x (rw (el, em) h) (rw em g) p) (λ q r. rounds-came n k l m (pass n x) h g (pass-at n x .0 ∙ el) (pass-at n x .1 ∙ em) q r)
+rounds-came : (n k : ℕ) (x : State) → x .0 .l < x .0 .m → x .0 .m < n → x .0 .stop ≡ 0 → Fine n x → Came n k x (rounds (pass n) ended k x)
+unfolding rounds pass code
+rounds-came n zero x h g z p = record { c = 0; e = used; looped = no-more; stops = z; counts = omega arith; stays = refl; fine = λ q. absurd (omega arith) }
+rounds-came n (suc k) x h g z p = go (one-pass n x h g p) (λ q r. rounds-came n k (pass n x) h g q r)
   where
     y : State
     y = pass n x
 
-    next : State
-    next = rounds (pass n) ended k y
+    rest : State
+    rest = rounds (pass n) ended k y
 
-    is : carried y ≡ passed n l m (carried x)
-    is = pass-carried n x ∙ (λ i. passed n (el i) (em i) (carried x))
+    over : {s : ℕ} → y .0 .stop ≡ s → Came n (suc k) x (cond (not (eqb s 0)) y rest) → Came n (suc k) x (cond (ended y) y rest)
+    over q a = subst (λ (s : ℕ). Came n (suc k) x (cond (not (eqb s 0)) y rest)) (sym q) a
 
-    test : settled (x .0 .l) (carried y) ≡ settled l (passed n l m (carried x))
-    test = λ i. settled (el i) (is i)
-
-    over : {s : ℕ} → y .0 .stop ≡ s → Came n l m (carried x) (cond (not (eqb s 0)) y next) → Came n l m (carried x) (cond (ended y) y next)
-    over q a = subst (λ (s : ℕ). Came n l m (carried x) (cond (not (eqb s 0)) y next)) (sym q) a
-
-    go : Passed n x y → (y .0 .stop ≡ 0 → Fine n y → Came n l m (carried y) next) → Came n l m (carried x) (cond (ended y) y next)
-    go (Passed.bad q) later = over q (Came.bad q)
-    go (Passed.here q s r) later =
-        over q (Came.here q (pass-at n x .0 ∙ el) (subst (Looped n l m (carried x)) (sym is) (once (sym test ∙ s))) r)
-    go (on q s r) later =
-        over q (came-again n l m (carried x) next (sym test ∙ s) (subst (λ (c : Carried). Came n l m c next) is (later q r)))
+    go : Passed n x y → (y .0 .stop ≡ 0 → Fine n y → Came n k y rest) → Came n (suc k) x (cond (ended y) y rest)
+    go (sees q f) later =
+        over q (record { c = 1; e = bad; looped = stop f; stops = q; counts = refl; stays = refl; fine = λ o. absurd (omega (arith, q, o)) })
+    go (settles q f s r) later =
+        over q (record { c = 1; e = here; looped = once f s; stops = q; counts = refl; stays = refl; fine = λ o. r })
+    go (on q f s r) later =
+        let w = later q r in
+        over q (record { c = suc (w .c); e = w .e; looped = again f s (w .looped); stops = w .stops; counts = w .counts ∙ omega arith; stays = w .stays; fine = w .fine })
 
 -- ---- one l
 
+-- a run that has stopped before l
+record Halted (n limit : ℕ) (first : Carried) (e : End) (l : ℕ) (s : State) : Type 0 where
+  place : ℕ
+  count : ℕ
+  passes : ℕ
+  before : Carried
+  below : place < l
+  ran : Ran n limit first place count before
+  turned : Turned n limit place before passes e (carried s)
+  counts : s .0 .count ≡ count + passes
+  stays : s .0 .l ≡ place
+
 -- where a run stands before l
-data Stood (n : ℕ) (x : Carried) (l : ℕ) (y : State) : Type 0 where
-  bad : y .0 .stop ≡ 8 → Stood n x l y
-  used : y .0 .stop ≡ 9 → Stood n x l y
-  going : y .0 .stop ≡ 0 → Fine n y → Ran n x l (carried y) → Stood n x l y
+data Stood (n limit : ℕ) (first : Carried) (l : ℕ) (s : State) : Type 0 where
+  marked : s .0 .stop ≡ 8 → Halted n limit first bad l s → Stood n limit first l s
+  spent : s .0 .stop ≡ 9 → Halted n limit first used l s → Stood n limit first l s
+  going : s .0 .stop ≡ 0 → Fine n s → Ran n limit first l (s .0 .count) (carried s) → Stood n limit first l s
 
 -- the run comes to l
 abbrev come : ℕ → ℕ → State → State
@@ -179,18 +175,30 @@ closed-used : (x : State) → x .0 .stop ≡ 0 → closed x ≡ (stopping (x .0)
 unfolding closed
 closed-used x q = λ i. cond (eqb (q i) 1) (released x) (cond (eqb (q i) 0) (stopping (x .0) 9, x .1, x .2, x .3) x)
 
-module _ (n limit l : ℕ) (first : Carried) (y : State) (h : l < n) (p : Fine n y) (r : Ran n first l (carried y)) where
+module _ (n limit l : ℕ) (first : Carried) (y : State) (h : l < n) (p : Fine n y) (r : Ran n limit first l (y .0 .count) (carried y)) where
   -- settled at l, by passes or at once
-  left : (z : State) → z .0 .stop ≡ 1 → z .0 .l ≡ l → Fine n z → Turned n l (carried y) (valued l (carried z)) → Stood n first (suc l) (closed z)
-  left z q e f t = subst (Stood n first (suc l)) (sym (closed-here z q))
-      (going refl (released-fine n z (rw e h) f) (more r (subst (λ (k : ℕ). Turned n l (carried y) (valued k (carried z))) (sym e) t)))
+  left : (z : State) (k : ℕ) → z .0 .stop ≡ 1 → z .0 .l ≡ l → z .0 .count ≡ y .0 .count + k → Fine n z → Turned n limit l (carried y) k here (valued l (carried z)) → Stood n limit first (suc l) (closed z)
+  left z k q e c f w = subst (Stood n limit first (suc l)) (sym (closed-here z q))
+      (going refl (released-fine n z (rw e h) f) (subst (λ (j : ℕ). Ran n limit first (suc l) j (carried (released z))) (sym c)
+      (more r (subst (λ (j : ℕ). Turned n limit l (carried y) k here (valued j (carried z))) (sym e) w))))
 
-  by-came : (m : ℕ) (z : State) → ltb l (searched n l (grown l (carried y))) ≡ true → m ≡ searched n l (grown l (carried y)) → Came n l m (grown l (carried y)) z → Stood n first (suc l) (closed z)
-  by-came m z t e (Came.bad q) = subst (Stood n first (suc l)) (sym (closed-bad z q)) (Stood.bad q)
-  by-came m z t e (Came.used q) = subst (Stood n first (suc l)) (sym (closed-used z q)) (Stood.used refl)
-  by-came m z t e (Came.here q i a f) = left z q i f (by-passes t (subst (λ (k : ℕ). Looped n l k (grown l (carried y)) (carried z)) e a))
+  -- stopped there
+  halts : (z : State) (k : ℕ) (e : End) → z .0 .l ≡ l → z .0 .count ≡ y .0 .count + k → Turned n limit l (carried y) k e (carried z) → Halted n limit first e (suc l) z
+  halts z k e s c t =
+      record { place = l; count = y .0 .count; passes = k; before = carried y; below = omega arith; ran = r; turned = t; counts = c; stays = s }
 
-  stage-stood : Stood n first (suc l) (stage n limit l y)
+  by-came : (z : State) → ltb l (searched n l (grown l (carried y))) ≡ true → come n l y .0 .m ≡ searched n l (grown l (carried y)) → Came n limit (come n l y) z → Stood n limit first (suc l) (closed z)
+  unfolding opened code
+  by-came z b m w = go (w .e) (w .stops) (subst (λ (j : ℕ). Looped n l j limit (w .c) (grown l (carried y)) (w .e) (carried z)) m (w .looped))
+    where
+      go : (e : End) → z .0 .stop ≡ code e → Looped n l (searched n l (grown l (carried y))) limit (w .c) (grown l (carried y)) e (carried z) → Stood n limit first (suc l) (closed z)
+      go here q a = left z (w .c) q (w .stays) (w .counts) (w .fine q) (by-passes b a)
+      go bad q a = subst (Stood n limit first (suc l)) (sym (closed-bad z q)) (marked q (halts z (w .c) bad (w .stays) (w .counts) (by-mark b a)))
+      go used q a =
+          subst (Stood n limit first (suc l)) (sym (closed-used z q))
+          (spent refl (halts (stopping (z .0) 9, z .1, z .2, z .3) (w .c) used (w .stays) (w .counts) (by-limit b a)))
+
+  stage-stood : Stood n limit first (suc l) (stage n limit l y)
   unfolding stage iterated opened
   stage-stood = go (ltb l m) refl
     where
@@ -200,29 +208,33 @@ module _ (n limit l : ℕ) (first : Carried) (y : State) (h : l < n) (p : Fine n
       same : m ≡ searched n l (grown l (carried y))
       same = come-m n l y h p
 
-      next : State
-      next = rounds (pass n) ended limit (come n l y)
+      rest : State
+      rest = rounds (pass n) ended limit (come n l y)
 
-      over : {b : Bool} → ltb l m ≡ b → Stood n first (suc l) (closed (cond (not (eqb (cond b 0 1) 0)) (come n l y) next))
-          → Stood n first (suc l) (closed (cond (not (eqb (cond (ltb l m) 0 1) 0)) (come n l y) next))
-      over t s = subst (λ (b : Bool). Stood n first (suc l) (closed (cond (not (eqb (cond b 0 1) 0)) (come n l y) next))) (sym t) s
+      over : {b : Bool} → ltb l m ≡ b → Stood n limit first (suc l) (closed (cond (not (eqb (cond b 0 1) 0)) (come n l y) rest))
+          → Stood n limit first (suc l) (closed (cond (not (eqb (cond (ltb l m) 0 1) 0)) (come n l y) rest))
+      over b s = subst (λ (c : Bool). Stood n limit first (suc l) (closed (cond (not (eqb (cond c 0 1) 0)) (come n l y) rest))) (sym b) s
 
-      go : (b : Bool) → ltb l m ≡ b → Stood n first (suc l) (closed (cond (not (eqb (cond (ltb l m) 0 1) 0)) (come n l y) next))
-      go true t =
-          over t (by-came m next (ap (ltb l) (sym same) ∙ t) same
-          (rounds-came n limit l m (come n l y) (ltb-true l m t) (split-below n l _ (y .3) h) refl refl (ap (λ (b : Bool). cond b 0 1) t) (come-fine n l y p)))
-      go false t = over t (left (come n l y) (ap (λ (b : Bool). cond b 0 1) t) refl (come-fine n l y p) (at-once (ap (ltb l) (sym same) ∙ t)))
+      go : (b : Bool) → ltb l m ≡ b → Stood n limit first (suc l) (closed (cond (not (eqb (cond (ltb l m) 0 1) 0)) (come n l y) rest))
+      go true b =
+          over b (by-came rest (ap (ltb l) (sym same) ∙ b) same
+          (rounds-came n limit (come n l y) (ltb-true l m b) (split-below n l _ (y .3) h) (ap (λ (c : Bool). cond c 0 1) b) (come-fine n l y p)))
+      go false b = over b (left (come n l y) 0 (ap (λ (c : Bool). cond c 0 1) b) refl (omega arith) (come-fine n l y p) (at-once (ap (ltb l) (sym same) ∙ b)))
 
-turn-stood : (n limit l : ℕ) (first : Carried) (y : State) → l < n → Stood n first l y → Stood n first (suc l) (turn n limit l y)
+-- a run that has stopped stays as it is
+later : {n limit : ℕ} {first : Carried} {e : End} {l : ℕ} {s : State} → Halted n limit first e l s → Halted n limit first e (suc l) s
+later h = record { place = h .place; count = h .count; passes = h .passes; before = h .before; below = omega (arith, h .below); ran = h .ran; turned = h .turned; counts = h .counts; stays = h .stays }
+
+turn-stood : (n limit l : ℕ) (first : Carried) (y : State) → l < n → Stood n limit first l y → Stood n limit first (suc l) (turn n limit l y)
 unfolding turn
 turn-stood n limit l first y h s = go s
   where
-    over : {b : ℕ} → y .0 .stop ≡ b → Stood n first (suc l) (cond (not (eqb b 0)) y (stage n limit l y)) → Stood n first (suc l) (cond (ended y) y (stage n limit l y))
-    over q a = subst (λ (b : ℕ). Stood n first (suc l) (cond (not (eqb b 0)) y (stage n limit l y))) (sym q) a
+    over : {b : ℕ} → y .0 .stop ≡ b → Stood n limit first (suc l) (cond (not (eqb b 0)) y (stage n limit l y)) → Stood n limit first (suc l) (cond (ended y) y (stage n limit l y))
+    over q a = subst (λ (b : ℕ). Stood n limit first (suc l) (cond (not (eqb b 0)) y (stage n limit l y))) (sym q) a
 
-    go : Stood n first l y → Stood n first (suc l) (cond (ended y) y (stage n limit l y))
-    go (Stood.bad q) = over q (Stood.bad q)
-    go (Stood.used q) = over q (Stood.used q)
+    go : Stood n limit first l y → Stood n limit first (suc l) (cond (ended y) y (stage n limit l y))
+    go (marked q w) = over q (marked q (later w))
+    go (spent q w) = over q (spent q (later w))
     go (going q p r) = over q (stage-stood n limit l first y h p r)
 
 -- ---- the run
@@ -232,11 +244,11 @@ started : ℕ → Vec × Vec × Vec → State
 started n x = (fresh, x .0, x .1, movedUp n (x .2))
 
 -- before any l
-stands : (n limit l : ℕ) (x : Vec × Vec × Vec) → 0 < n → l ≤ n → length (x .2) ≡ n → Stood n (begun n x) l (upto (turn n limit) 0 l (started n x))
+stands : (n limit l : ℕ) (x : Vec × Vec × Vec) → 0 < n → l ≤ n → length (x .2) ≡ n → Stood n limit (begun n x) l (upto (turn n limit) 0 l (started n x))
 unfolding started
 stands n limit l x z h e =
-    upto-both (λ j s t. Stood n (begun n x) j s) (turn n limit) (turn n limit) 0 l (started n x) (started n x) (omega arith)
-    (λ j s t a b q. subst (λ (i : ℕ). Stood n (begun n x) i (turn n limit j s)) (sym (add-one j)) (turn-stood n limit j (begun n x) s (omega arith) q))
+    upto-both (λ j s t. Stood n limit (begun n x) j s) (turn n limit) (turn n limit) 0 l (started n x) (started n x) (omega arith)
+    (λ j s t a b q. subst (λ (i : ℕ). Stood n limit (begun n x) i (turn n limit j s)) (sym (add-one j)) (turn-stood n limit j (begun n x) s (omega arith) q))
     (going refl (record { long = moved-long n (x .2) e; last = moved-last n (x .2) z e; grows = plus-zero }) none)
 
 -- at each l that a run comes to, with tst1 as it is there, document 000's test holds at n - 1
@@ -249,39 +261,54 @@ test-at-last n limit l v d e h g q = go (stands n limit l (v, d, e) (omega arith
     s : State
     s = upto (turn n limit) 0 l (fresh, v, d, movedUp n e)
 
-    go : Stood n (begun n (v, d, e)) l s → settled (n - 1) (grown l (carried s)) ≡ true
-    go (Stood.bad z) = absurd (omega arith)
-    go (Stood.used z) = absurd (omega arith)
+    go : Stood n limit (begun n (v, d, e)) l s → settled (n - 1) (grown l (carried s)) ≡ true
+    go (marked z w) = absurd (omega arith)
+    go (spent z w) = absurd (omega arith)
     go (going z p r) = come-last n l s p
 
--- where an outcome is done, it is document 000's
-abbrev Says : ℕ → Vec × Vec × Vec → Answer × Vec × Vec × Vec → Type 0
-Says n x o = o .0 .answer ≡ 0 → Tql2 n x (o .1, o .2, o .3)
+-- ---- the whole
 
-finished-says : (n : ℕ) (x : Vec × Vec × Vec) (y : State) → Stood n (begun n x) n y → Says n x (finished n y)
+mark2-whole : (n : ℕ) (x : Carried) → 0 < n → length (x .v) ≡ n * n → mark2 n (x .d) (x .v) ≡ false → Whole x
+unfolding mark2
+mark2-whole n x z l h =
+    let o = or-false (isBad (firstBad (x .d))) (isBad (firstBadCell n (x .v))) h in
+    record { values = scan-finite (x .d) (o .0); vectors = cells-finite n n (x .v) l z (o .1) }
+
+whole-mark2 : (n : ℕ) (x : Carried) → 0 < n → length (x .v) ≡ n * n → Whole x → mark2 n (x .d) (x .v) ≡ false
+unfolding mark2
+whole-mark2 n x z l w = rw (finite-scan (x .d) (w .values), finite-cells n n (x .v) l z (w .vectors))
+
+finished-told : (n limit : ℕ) (x : Vec × Vec × Vec) (y : State) → 0 < n → length (x .0) ≡ n * n → Stood n limit (begun n x) n y → Told n limit x (finished n y)
 unfolding finished
-finished-says n x y s = go s
+finished-told n limit x y z long s = go s
   where
-    end : Answer × Vec × Vec × Vec
-    end = cond (mark2 n (y .2) (y .1)) (answered 8 2 (y .0 .count), y .1, y .2, y .3) (done (y .0 .count), sorted n (y .1, y .2) .0, sorted n (y .1, y .2) .1, y .3)
+    end : Bool → Ended
+    end b = cond b (answered 8 2 (y .0 .count), y .1, y .2, y .3) (done (y .0 .count), sorted n (y .1, y .2) .0, sorted n (y .1, y .2) .1, y .3)
 
-    after : ℕ → Answer × Vec × Vec × Vec
-    after s = cond (eqb s 8) (answered 8 1 (y .0 .count), y .1, y .2, y .3) (cond (eqb s 9) (answered 9 (y .0 .l) (y .0 .count), y .1, y .2, y .3) end)
+    after : ℕ → Ended
+    after s =
+        cond (eqb s 8) (answered 8 1 (y .0 .count), y .1, y .2, y .3)
+        (cond (eqb s 9) (answered 9 (y .0 .l) (y .0 .count), y .1, y .2, y .3) (end (mark2 n (y .2) (y .1))))
 
-    over : {s : ℕ} → y .0 .stop ≡ s → Says n x (after s) → Says n x (after (y .0 .stop))
-    over q a = subst (λ (s : ℕ). Says n x (after s)) (sym q) a
+    over : {s : ℕ} → y .0 .stop ≡ s → Told n limit x (after s) → Told n limit x (after (y .0 .stop))
+    over q a = subst (λ (s : ℕ). Told n limit x (after s)) (sym q) a
 
-    ended-well : Ran n (begun n x) n (carried y) → (b : Bool)
-        → Says n x (cond b (answered 8 2 (y .0 .count), y .1, y .2, y .3) (done (y .0 .count), sorted n (y .1, y .2) .0, sorted n (y .1, y .2) .1, y .3))
-    ended-well r true a = absurd (omega arith)
-    ended-well r false a = record { last = carried y; ran = r; values = refl }
+    last : Ran n limit (begun n x) n (y .0 .count) (carried y) → length (y .1) ≡ n * n → (b : Bool) → mark2 n (y .2) (y .1) ≡ b → Told n limit x (end b)
+    last r l true e = at-mark2 r (λ w. true≢false (sym e ∙ whole-mark2 n (carried y) z l w))
+    last r l false e = well r (mark2-whole n (carried y) z l e)
 
-    go : Stood n (begun n x) n y → Says n x (after (y .0 .stop))
-    go (Stood.bad q) = over q (λ a. absurd (omega arith))
-    go (Stood.used q) = over q (λ a. absurd (omega arith))
-    go (going q p r) = over q (ended-well r (mark2 n (y .2) (y .1)))
+    go : Stood n limit (begun n x) n y → Told n limit x (after (y .0 .stop))
+    go (marked q w) = over q (subst (λ (k : ℕ). Told n limit x (answered 8 1 k, y .1, y .2, y .3)) (sym (w .counts)) (at-mark1 (w .below) (w .ran) (w .turned)))
+    go (spent q w) =
+        over q (subst (λ (t : ℕ × ℕ). Told n limit x (answered 9 (t .0) (t .1), y .1, y .2, y .3)) (λ i. (sym (w .stays) i, sym (w .counts) i)) (at-limit (w .below) (w .ran) (w .turned)))
+    go (going q f r) = over q (last r (ran-long n (ran-document n limit r) .vectors ∙ long) (mark2 n (y .2) (y .1)) refl)
 
-pub tql2-document : (n limit : ℕ) (x : Vec × Vec × Vec) → 0 < n → length (x .2) ≡ n → tql2 n limit x .0 .answer ≡ 0
-    → Tql2 n x (tql2 n limit x .1, tql2 n limit x .2, tql2 n limit x .3)
+-- **the outcome of tql2 is the one that is told**
+pub told : (n limit : ℕ) (x : Vec × Vec × Vec) → 0 < n → length (x .0) ≡ n * n → length (x .2) ≡ n → Told n limit x (tql2 n limit x)
 unfolding tql2 run started
-tql2-document n limit x z e a = finished-says n x (upto (turn n limit) 0 n (fresh, x .0, x .1, movedUp n (x .2))) (stands n limit n x z (omega arith) e) a
+told n limit x z long e = finished-told n limit x _ z long (stands n limit n x z (omega arith) e)
+
+-- **marks and limit only stop**: where an outcome is done, it is document 000's
+pub tql2-document : (n limit : ℕ) (x : Vec × Vec × Vec) → 0 < n → length (x .0) ≡ n * n → length (x .2) ≡ n → tql2 n limit x .0 .answer ≡ 0
+    → Tql2 n x (tql2 n limit x .1, tql2 n limit x .2, tql2 n limit x .3)
+tql2-document n limit x z long e = told-document n limit x (tql2 n limit x) (told n limit x z long e)

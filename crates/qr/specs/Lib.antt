@@ -1,3 +1,6 @@
 -- What `qr_q` comes back with.
 pub mod Qr
 pub mod One
+pub mod Quotient
+pub mod Out
+pub mod Old

@@ -1,3 +1,5 @@
 -- What `solve` and `pseudo_inverse` come back with.
 pub mod Solve
 pub mod One
+pub mod Out
+pub mod Old

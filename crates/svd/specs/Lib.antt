@@ -1,10 +1,16 @@
 -- The svd of a matrix: the sorted decomposition, the outcome of a call, and the row of V^T.
 pub mod Order
 pub mod Rank
-pub mod Compare
 pub mod Sorted
 pub mod Svd
 pub mod Known
 pub mod Row
-pub mod Cells
+pub mod Document
+pub mod Exact
+pub mod ExactLaws
+pub mod Factors
 pub mod Promise
+pub mod Limit
+pub mod Out
+pub mod Flags
+pub mod Old

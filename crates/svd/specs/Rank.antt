@@ -7,10 +7,11 @@ use native.Mathlib.Numerals.{add-one}
 use native.Mathlib.Omega.{arith}
 use borrow.Author.Tests.{le-ltb, eqb-true, eqb-false, ltb-true, ltb-false}
 use lib.Dec.{ltb, eqb}
-use lib.Ieee.{Float, nan, inf, fin, lt, up, down}
+use lib.Ieee.{Float}
 use lib.ListN.{length, set, getD, replicate, length-set, getD-replicate, List·getD-eq-default}
 use lib.Seq.{getD-set-same, getD-set-other}
 use Rattle.grid.specs.Loop.{upto, upto-none, upto-more, upto-keeps}
+use Rattle.leaves.specs.Compare.{lt-self}
 use Rattle.svd.specs.Order.{ahead, one, rank, noteStep, noted, order, Below}
 
 -- ---- how many of the first r: the sum of numbers that are 0 or 1
@@ -46,14 +47,6 @@ one-le true = omega arith
 one-le false = omega arith
 
 -- ---- the place of a column
-
-pub lt-self : (x : Float) → lt x x ≡ false
-unfolding lt
-lt-self nan = refl
-lt-self (inf true) = refl
-lt-self (inf false) = refl
-lt-self (fin true m e) = le-ltb (m * up e * down e) (m * up e * down e) (omega arith)
-lt-self (fin false m e) = le-ltb (m * up e * down e) (m * up e * down e) (omega arith)
 
 pub ahead-self : (s : ℕ → Float) (k : ℕ) → ahead s k k ≡ false
 ahead-self s k = rw (lt-self (s k), le-ltb k k (omega arith))

@@ -3,11 +3,11 @@ use mathlib.Core.Path.{_≡_}
 use mathlib.Core.Bool.{Bool, true, false}
 use Prim.Native.Nat.{ℕ, _+_, _*_, _-_, _≤_, _<_}
 use native.Mathlib.Omega.{arith}
-use borrow.Author.Tests.{ne-eqb}
 use lib.Dec.{ltb, leb, eqb}
 use lib.ListN.{take, drop}
 use Rattle.grid.specs.Real.{Vec}
 use Rattle.answers.specs.Answers.{least, present, decompositionLength}
+use Rattle.answers.specs.OutcomeLaws.{present-is}
 use Rattle.svd.specs.Known.{column-of}
 use Rattle.svd.specs.declared.Span.{Span}
 use Rattle.svd.specs.declared.Span.the-variants.{At, Missing}
@@ -43,10 +43,6 @@ Within len (At a e) = (a ≤ e) × (e ≤ len)
 Within len Missing = Unit
 
 -- ---- a row that is there ends within the result
-
-present-is : (flag count : ℕ) → (flag ≡ 0 → ⊥) → present flag count ≡ count
-unfolding present
-present-is flag count p = rw (ne-eqb flag 0 p)
 
 pub row-fits : (len m n hasU hasVt j r u : ℕ) → r ≡ least m n → u ≡ present hasU (m * r) → (hasVt ≡ 0 → ⊥) → j < r → len ≡ decompositionLength m n hasU hasVt
     → r + u + j * n + n ≤ len

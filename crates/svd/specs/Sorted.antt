@@ -14,7 +14,7 @@ use Rattle.grid.specs.Loop.{upto-both}
 use Rattle.leaves.specs.Leaf.{isFinite}
 use Rattle.svd.specs.Order.{ahead, one, rank, noteStep, noted, order, Below}
 use Rattle.svd.specs.Rank.{total, total-none, total-more, one-le, ahead-self, rank-total, rank-lt, order-below}
-use Rattle.svd.specs.Compare.{lt-chain, lt-turn, le-of-not, not-of-eq}
+use Rattle.leaves.specs.Compare.{lt-chain, lt-turn, le-of-not, not-of-eq}
 
 -- o names a column for each place below r so that the values descend and equal values keep their order
 pub record Sorted (s : ℕ → Float) (r : ℕ) (o : List ℕ) : Type 0 where

@@ -1,5 +1,5 @@
 -- The comparison of finite numbers is that of a line: of two one at most is below the other, and "not below" goes on from one to the next. Signs are free, and -0
--- stands with +0.
+-- stands with +0. Laws only.
 use mathlib.Core.Path.{_≡_, refl, sym, ap, _∙_}
 use mathlib.Core.Bool.{Bool, true, false, _||_, _&&_, true≢false}
 use Prim.Native.Nat.{ℕ, suc, _+_, _*_, _<_}
@@ -68,6 +68,15 @@ below-turn false a false b p = le-ltb b a (omega (arith, ltb-true a b p))
 below-turn false a true b p = absurd (true≢false (sym p))
 below-turn true a false b p = refl
 below-turn true a true b p = le-ltb a b (omega (arith, ltb-true b a p))
+
+-- no number is below itself
+pub lt-self : (x : Float) → lt x x ≡ false
+unfolding lt
+lt-self nan = refl
+lt-self (inf true) = refl
+lt-self (inf false) = refl
+lt-self (fin true m e) = le-ltb (m * up e * down e) (m * up e * down e) (omega arith)
+lt-self (fin false m e) = le-ltb (m * up e * down e) (m * up e * down e) (omega arith)
 
 -- of two numbers one at most is below the other
 pub lt-turn : (x y : Float) → lt x y ≡ true → lt y x ≡ false

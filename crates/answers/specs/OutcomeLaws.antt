@@ -1,0 +1,123 @@
+-- What checks say where they pass and where they refuse, of one call and of two that differ in old contents or in the limit. Laws only.
+use mathlib.Core.Path.{_≡_, refl, sym, ap, _∙_}
+use mathlib.Core.Bool.{Bool, true, false, cond, _&&_, true≢false}
+use Prim.Native.Nat.{ℕ, _≤_}
+use native.Mathlib.Omega.{arith}
+use borrow.Author.Tests.{le-leb, leb-true, eq-eqb, ne-eqb, eqb-true, eqb-false}
+use lib.Dec.{leb, eqb}
+use lib.ListN.{length}
+use Rattle.grid.specs.Real.{Vec}
+use Rattle.leaves.specs.Finite.{Finite}
+use Rattle.leaves.specs.declared.Bad.{Bad}
+use Rattle.leaves.specs.declared.Bad.the-variants.{At, Nowhere}
+use Rattle.answers.specs.Answers.{refused, pass, passed, limitGood, lengths, present, refusal7}
+use Rattle.answers.specs.Early.{Early}
+use Rattle.answers.specs.declared.Answer.{Answer}
+
+-- ---- a part of a decomposition, by its flag
+
+pub present-is : (flag count : ℕ) → (flag ≡ 0 → ⊥) → present flag count ≡ count
+unfolding present
+present-is flag count p = rw (ne-eqb flag 0 p)
+
+pub present-none : (flag count : ℕ) → flag ≡ 0 → present flag count ≡ 0
+unfolding present
+present-none flag count p = rw (eq-eqb flag 0 p)
+
+-- ---- a check that passes
+
+pub lengths-right : (a wa b wb c wc : ℕ) → lengths a wa b wb c wc .answer ≡ 0 → (a ≡ wa) × (b ≡ wb) × (c ≡ wc)
+unfolding lengths
+lengths-right a wa b wb c wc = go (eqb a wa) refl (eqb b wb) refl (eqb c wc) refl
+  where
+    go : (p : Bool) → eqb a wa ≡ p → (q : Bool) → eqb b wb ≡ q → (r : Bool) → eqb c wc ≡ r
+        → cond p (cond q (cond r pass (refused 6 2)) (refused 6 1)) (refused 6 0) .answer ≡ 0 → (a ≡ wa) × (b ≡ wb) × (c ≡ wc)
+    go true e true f true g h = (eqb-true a wa e, eqb-true b wb f, eqb-true c wc g)
+    go true e true f false g h = absurd (omega arith)
+    go true e false f r g h = absurd (omega arith)
+    go false e q f r g h = absurd (omega arith)
+
+pub limit-right : (limit : ℕ) → limitGood limit ≡ true → (1 ≤ limit) × (limit ≤ 60)
+unfolding limitGood
+limit-right limit = go (leb 1 limit) refl (leb limit 60) refl
+  where
+    go : (p : Bool) → leb 1 limit ≡ p → (q : Bool) → leb limit 60 ≡ q → (p && q) ≡ true → (1 ≤ limit) × (limit ≤ 60)
+    go true e true f h = (leb-true 1 limit e, leb-true limit 60 f)
+    go true e false f h = absurd (true≢false (sym h))
+    go false e q f h = absurd (true≢false (sym h))
+
+pub right-limit : (limit : ℕ) → 1 ≤ limit → limit ≤ 60 → limitGood limit ≡ true
+unfolding limitGood
+right-limit limit p q = simp (le-leb 1 limit p, le-leb limit 60 q)
+
+pub none-seven : (b : Bad) → refusal7 b .answer ≡ 0 → b ≡ Nowhere
+none-seven (At k) h = absurd (omega arith)
+none-seven Nowhere h = refl
+
+-- ---- a check refuses with 6 at the most
+
+pub lengths-few : (a wa b wb c wc : ℕ) → lengths a wa b wb c wc .answer ≤ 6
+unfolding lengths
+lengths-few a wa b wb c wc = go (eqb a wa) (eqb b wb) (eqb c wc)
+  where
+    go : (p q r : Bool) → cond p (cond q (cond r pass (refused 6 2)) (refused 6 1)) (refused 6 0) .answer ≤ 6
+    go true true true = omega arith
+    go true true false = omega arith
+    go true false r = omega arith
+    go false q r = omega arith
+
+pub refuse-few : (b : Bool) (k p : ℕ) (y : Answer) → k ≤ 6 → y .answer ≤ 6 → cond b (refused k p) y .answer ≤ 6
+refuse-few true k p y h q = h
+refuse-few false k p y h q = q
+
+pub unless-few : (b : Bool) (k p : ℕ) (y : Answer) → k ≤ 6 → y .answer ≤ 6 → cond b y (refused k p) .answer ≤ 6
+unless-few true k p y h q = q
+unless-few false k p y h q = h
+
+-- ---- old contents: o and p come after the check c; r and s leave the arrays as they were
+
+pub old : (S : Type 0) (answer : S → Answer) (c : Answer) (o p r s : S) → c .answer ≤ 6 → (passed c ≡ true → o ≡ p) → answer r ≡ c → answer s ≡ c
+    → (Early (answer (cond (passed c) o r)) → ⊥) → cond (passed c) o r ≡ cond (passed c) p s
+old S answer c o p r s few same e f h = go (passed c) refl h
+  where
+    go : (b : Bool) → passed c ≡ b → (Early (answer (cond b o r)) → ⊥) → cond b o r ≡ cond b p s
+    go true t h = same t
+    go false t h = absurd (h (record { some = above (eqb-false (c .answer) 0 t) (ap (λ (x : Answer). x .answer) e); few = under (ap (λ (x : Answer). x .answer) e) }))
+      where
+        above : (c .answer ≡ 0 → ⊥) → answer r .answer ≡ c .answer → 1 ≤ answer r .answer
+        above d q = omega arith
+
+        under : answer r .answer ≡ c .answer → answer r .answer ≤ 6
+        under q = omega arith
+
+-- ---- a higher limit: y is x, unless x is refused with 9
+
+module _ {S : Type 0} (answer : S → ℕ) where
+  pub record Settled (x y : S) : Type 0 where
+    pub same : (answer x ≡ 9 → ⊥) → y ≡ x
+
+  pub always : {x : S} → Settled x x
+  always = record { same = λ h. refl }
+
+  -- two choices by one test
+  pub by-test : {x y s t : S} (b c : Bool) → b ≡ c → Settled x s → Settled y t → Settled (cond b x y) (cond c s t)
+  by-test true true e p q = p
+  by-test true false e p q = absurd (true≢false e)
+  by-test false true e p q = absurd (true≢false (sym e))
+  by-test false false e p q = q
+
+-- ---- where the answer is 0, the array is finite and of that length
+
+pub record Good (n : ℕ) (x : Answer × Vec) : Type 0 where
+  pub finite : x .0 .answer ≡ 0 → Finite (x .1)
+  pub long : x .0 .answer ≡ 0 → length (x .1) ≡ n
+
+pub refuses : (n : ℕ) (x : Answer) (v : Vec) → (x .answer ≡ 0 → ⊥) → Good n (x, v)
+refuses n x v d = record { finite = λ e. absurd (d e); long = λ e. absurd (d e) }
+
+pub check-good : (n : ℕ) (c : Answer) (x : Vec) (o : Answer × Vec) → Good n o → Good n (cond (passed c) o (c, x))
+check-good n c x o g = go (passed c) refl
+  where
+    go : (b : Bool) → passed c ≡ b → Good n (cond b o (c, x))
+    go true e = g
+    go false e = refuses n c x (eqb-false (c .answer) 0 e)

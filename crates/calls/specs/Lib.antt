@@ -1,0 +1,5 @@
+-- What holds of calls that meet their promises, one entry by itself and several together.
+pub mod Eigen
+pub mod Svd
+pub mod Answers
+pub mod Together
