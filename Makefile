@@ -1,21 +1,40 @@
-# make          prove everything, build the archive and the header into dist/
-# make test     what .ci/run calls: layout, C boundary, the oracle's text, then rt ci (its line is the last)
-# make example  the codec's example in C, built and run
-# make compare  fresh random cases against the Rust oracle: SEED=.. CASES=..
-# make bench    document 000's Rust and the archive in one run
-.PHONY: all test fmt clean
+# make               the archive and the header into dist/: proves the crate crewelmarsh and what it uses, no program and no must-fail edit
+# make test          the gate, what .ci/run calls: what is quick to look at; rt ci, which proves everything from nothing; over what it proved
+#                    the archive, the C tests, the example. rt's line, 'N passed, 0 failed', is the last, if all of it passed
+# make example       the codec's example in C, built and run
+# make believe       every definition that the public promises reach, in reading order, into build/believe.txt
+# make install       archive, shared library, header and the rest under PREFIX; make release packs them (tools/install.mk)
+# make proofs-fresh  whether each generated Proof.antt is what tools/prove/prove.py writes today
+# make compare       fresh random cases against the Rust oracle: SEED=.. CASES=..
+# make bench         document 000's Rust and the archive in one run
+# make bench-root    both ways to the square root, copied to C
+.PHONY: all test fmt kit proofs-fresh clean
 
 all: archive
 
 include tools/c.mk
+include tools/install.mk
+include tools/believe.mk
+include tools/rooms.mk
 include oracle/oracle.mk
 
-test: fmt boundary
-	@oracle/verbatim.sh
-	@rt ci
+# What the gate runs before rt ci, since it takes no time, and what behind it.
+QUICK := verbatim rooms-check believe-check
+GATE := archive boundary example-test
+
+test:
+	@RT='$(RT)' MAKE='$(MAKE)' sh tools/gate.sh $(QUICK) -- $(GATE)
 
 fmt:
-	@rt fmt --check
+	@$(RT) fmt --check
+
+# tools/kit has the line of the toolchain that the proofs were tried with; KIT_ANY=1 takes another one.
+kit:
+	@RT='$(RT)' sh tools/kit.sh
+
+proofs-fresh: kit
+	@command -v python3 >/dev/null || { echo 'proofs-fresh: there is no python3 here'; exit 1; }
+	@python3 tools/prove/fresh.py $(CRATES)
 
 clean:
-	rm -rf target dist build
+	rm -rf target dist build oracle/target

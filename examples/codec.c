@@ -102,13 +102,18 @@ static void inverse(const double *from, double *to)
 
 static double magnitude(double x) { return x < 0 ? -x : x; }
 
+/* A NaN is not larger than any number, so it is looked for by itself: it comes back, and is below no bound. */
 static double largest_difference(const double *x, const double *y, int length)
 {
     double largest = 0;
     int i;
-    for (i = 0; i < length; i++)
-        if (magnitude(x[i] - y[i]) > largest)
-            largest = magnitude(x[i] - y[i]);
+    for (i = 0; i < length; i++) {
+        double difference = magnitude(x[i] - y[i]);
+        if (difference != difference)
+            return difference;
+        if (difference > largest)
+            largest = difference;
+    }
     return largest;
 }
 

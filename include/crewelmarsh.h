@@ -9,6 +9,9 @@
  *     crewelmarsh_pseudo_inverse    the pseudo-inverse by an svd
  *     crewelmarsh_qr_q              an orthonormal basis of the columns
  *
+ * A sixth, crewelmarsh_vt_row_extent, says where in an svd's result a row of V^T stands; crewelmarsh_vt_row
+ * makes a pointer of it.
+ *
  * WHAT IS ASKED OF A CALLER
  *
  * An array is lent as a pointer and a length in numbers (not bytes). The arrays of one call exist at
@@ -45,18 +48,52 @@
  * 2^-250 to 2^250 (about 1e-75 to 1e75) they may overflow or vanish: then mostly the answer is 8 or 9, but
  * also 0 with numbers that are the defined ones and yet no eigenvectors or singular vectors (found by
  * trying: symmetric_eigen below about 2^-515, svd above about 2^252). Multiply such a matrix by a power of
- * two first, and the values by its inverse afterwards; the vectors stay.
+ * two first, and the values by its inverse afterwards; the vectors stay. The same can befall a part of a
+ * matrix that is so small by itself, beside numbers near 1: set to 0 what is that far below the largest.
  *
  * WHICH BITS
  *
  * Every outcome is defined to the last bit, in the floating-point state that a C program starts with: round
  * to nearest, subnormal numbers kept. Linking with -ffast-math may change that state for the whole
  * program, and then the definition doesn't describe what comes out.
+ *
+ * WHICH LIBRARY
+ *
+ * In the library each entry's name ends in the major version, crewelmarsh_svd_abi1, and this header maps
+ * the plain name to it: that is what nm, a debugger and the linker show. So a program compiled with a
+ * header of another major version doesn't link, and "undefined reference to crewelmarsh_svd_abi1" says
+ * that the library is missing or is not of major version 1.
  */
 #ifndef CREWELMARSH_H
 #define CREWELMARSH_H
 
 #include <stddef.h>
+
+/*
+ * The version; pkg-config, CMake and the shared library's name take it from here. Another major: programs
+ * must be compiled anew. Another minor: something was added, or the bits of a result changed. Else another
+ * patch.
+ */
+#define CREWELMARSH_VERSION_MAJOR 1
+#define CREWELMARSH_VERSION_MINOR 0
+#define CREWELMARSH_VERSION_PATCH 0
+#define CREWELMARSH_VERSION /* as a string */ \
+    CREWELMARSH_DOTTED(CREWELMARSH_VERSION_MAJOR, CREWELMARSH_VERSION_MINOR, CREWELMARSH_VERSION_PATCH)
+
+/* Each entry by its name in the library. */
+#define crewelmarsh_symmetric_eigen CREWELMARSH_NAME(symmetric_eigen)
+#define crewelmarsh_svd CREWELMARSH_NAME(svd)
+#define crewelmarsh_vt_row_extent CREWELMARSH_NAME(vt_row_extent)
+#define crewelmarsh_solve CREWELMARSH_NAME(solve)
+#define crewelmarsh_pseudo_inverse CREWELMARSH_NAME(pseudo_inverse)
+#define crewelmarsh_qr_q CREWELMARSH_NAME(qr_q)
+
+/* The numbers are put in first, then pasted or quoted. */
+#define CREWELMARSH_NAME(name) CREWELMARSH_NUMBERED(crewelmarsh_##name##_abi, CREWELMARSH_VERSION_MAJOR)
+#define CREWELMARSH_NUMBERED(name, major) CREWELMARSH_PASTED(name, major)
+#define CREWELMARSH_PASTED(name, major) name##major
+#define CREWELMARSH_DOTTED(major, minor, patch) CREWELMARSH_QUOTED(major, minor, patch)
+#define CREWELMARSH_QUOTED(major, minor, patch) #major "." #minor "." #patch
 
 #ifdef __cplusplus
 extern "C" {
@@ -150,77 +187,102 @@ static inline const char *crewelmarsh_text(size_t answer)
  * nothing is allocated: pass the 0 on, and the call answers 1.
  *
  * The most that any of them gives is 131,328 (the work or the result of an svd of 256 by 256).
+ *
+ * Each is there twice: as a macro for the length of an array that is declared, where the dimensions are
+ * constants (it may evaluate an argument several times, and has no meaning in #if), and as a function.
  */
 
+/* A dimension as a size_t, by a product, since some warn of casts; and whether it is taken. */
+#define CREWELMARSH_SIZE(dimension) (sizeof(char) * (dimension))
+#define CREWELMARSH_TAKEN(dimension) (CREWELMARSH_SIZE(dimension) <= CREWELMARSH_MAX_DIMENSION)
+
 /* rows * columns; the length of a matrix. */
-static inline size_t crewelmarsh_matrix_len(size_t rows, size_t columns)
-{
-    if (rows > CREWELMARSH_MAX_DIMENSION || columns > CREWELMARSH_MAX_DIMENSION)
-        return 0;
-    return rows * columns;
-}
+#define CREWELMARSH_MATRIX_LEN(rows, columns) \
+    (CREWELMARSH_TAKEN(rows) && CREWELMARSH_TAKEN(columns) ? CREWELMARSH_SIZE(rows) * CREWELMARSH_SIZE(columns) : 0)
 
 /* r, the smaller of m and n: how many singular values an m by n matrix has. */
-static inline size_t crewelmarsh_svd_values_len(size_t m, size_t n)
-{
-    if (m > CREWELMARSH_MAX_DIMENSION || n > CREWELMARSH_MAX_DIMENSION)
-        return 0;
-    return m < n ? m : n;
-}
+#define CREWELMARSH_SVD_VALUES_LEN(m, n) \
+    (!CREWELMARSH_TAKEN(m) || !CREWELMARSH_TAKEN(n) ? 0 : \
+     CREWELMARSH_SIZE(m) < CREWELMARSH_SIZE(n) ? CREWELMARSH_SIZE(m) : CREWELMARSH_SIZE(n))
 
 /* n */
-static inline size_t crewelmarsh_symmetric_eigen_work_len(size_t n)
-{
-    return n > CREWELMARSH_MAX_DIMENSION ? 0 : n;
-}
+#define CREWELMARSH_SYMMETRIC_EIGEN_WORK_LEN(n) (CREWELMARSH_TAKEN(n) ? CREWELMARSH_SIZE(n) : 0)
 
 /* n + n * n */
-static inline size_t crewelmarsh_symmetric_eigen_result_len(size_t n)
-{
-    return n > CREWELMARSH_MAX_DIMENSION ? 0 : n + n * n;
-}
+#define CREWELMARSH_SYMMETRIC_EIGEN_RESULT_LEN(n) \
+    (CREWELMARSH_TAKEN(n) ? CREWELMARSH_SIZE(n) + CREWELMARSH_SIZE(n) * CREWELMARSH_SIZE(n) : 0)
 
 /* max(m, n) * r + r * r + r */
-static inline size_t crewelmarsh_svd_work_len(size_t m, size_t n)
-{
-    size_t r = crewelmarsh_svd_values_len(m, n);
-    return crewelmarsh_matrix_len(m, n) + r * r + r;
-}
+#define CREWELMARSH_SVD_WORK_LEN(m, n) \
+    (CREWELMARSH_MATRIX_LEN(m, n) + \
+     CREWELMARSH_SVD_VALUES_LEN(m, n) * CREWELMARSH_SVD_VALUES_LEN(m, n) + CREWELMARSH_SVD_VALUES_LEN(m, n))
 
 /* r, and m * r if U is wanted, and r * n if V^T is wanted; also the length of a decomposition. */
-static inline size_t crewelmarsh_svd_result_len(size_t m, size_t n, size_t want_u, size_t want_vt)
-{
-    size_t r = crewelmarsh_svd_values_len(m, n);
-    size_t len = r;
-    if (want_u)
-        len += crewelmarsh_matrix_len(m, r);
-    if (want_vt)
-        len += crewelmarsh_matrix_len(r, n);
-    return len;
-}
+#define CREWELMARSH_SVD_RESULT_LEN(m, n, want_u, want_vt) \
+    (CREWELMARSH_SVD_VALUES_LEN(m, n) + \
+     ((want_u) != 0 ? CREWELMARSH_MATRIX_LEN(m, CREWELMARSH_SVD_VALUES_LEN(m, n)) : 0) + \
+     ((want_vt) != 0 ? CREWELMARSH_MATRIX_LEN(CREWELMARSH_SVD_VALUES_LEN(m, n), n) : 0))
 
 /* m */
-static inline size_t crewelmarsh_solve_right_side_len(size_t m)
-{
-    return m > CREWELMARSH_MAX_DIMENSION ? 0 : m;
-}
+#define CREWELMARSH_SOLVE_RIGHT_SIDE_LEN(m) (CREWELMARSH_TAKEN(m) ? CREWELMARSH_SIZE(m) : 0)
 
 /* n */
-static inline size_t crewelmarsh_solve_answer_len(size_t n)
-{
-    return n > CREWELMARSH_MAX_DIMENSION ? 0 : n;
-}
+#define CREWELMARSH_SOLVE_ANSWER_LEN(n) (CREWELMARSH_TAKEN(n) ? CREWELMARSH_SIZE(n) : 0)
 
 /* n * m */
-static inline size_t crewelmarsh_pseudo_inverse_answer_len(size_t m, size_t n)
-{
-    return crewelmarsh_matrix_len(n, m);
-}
+#define CREWELMARSH_PSEUDO_INVERSE_ANSWER_LEN(m, n) CREWELMARSH_MATRIX_LEN(n, m)
 
 /* m * k */
+#define CREWELMARSH_QR_Q_ANSWER_LEN(m, k) CREWELMARSH_MATRIX_LEN(m, k)
+
+static inline size_t crewelmarsh_matrix_len(size_t rows, size_t columns)
+{
+    return CREWELMARSH_MATRIX_LEN(rows, columns);
+}
+
+static inline size_t crewelmarsh_svd_values_len(size_t m, size_t n)
+{
+    return CREWELMARSH_SVD_VALUES_LEN(m, n);
+}
+
+static inline size_t crewelmarsh_symmetric_eigen_work_len(size_t n)
+{
+    return CREWELMARSH_SYMMETRIC_EIGEN_WORK_LEN(n);
+}
+
+static inline size_t crewelmarsh_symmetric_eigen_result_len(size_t n)
+{
+    return CREWELMARSH_SYMMETRIC_EIGEN_RESULT_LEN(n);
+}
+
+static inline size_t crewelmarsh_svd_work_len(size_t m, size_t n)
+{
+    return CREWELMARSH_SVD_WORK_LEN(m, n);
+}
+
+static inline size_t crewelmarsh_svd_result_len(size_t m, size_t n, size_t want_u, size_t want_vt)
+{
+    return CREWELMARSH_SVD_RESULT_LEN(m, n, want_u, want_vt);
+}
+
+static inline size_t crewelmarsh_solve_right_side_len(size_t m)
+{
+    return CREWELMARSH_SOLVE_RIGHT_SIDE_LEN(m);
+}
+
+static inline size_t crewelmarsh_solve_answer_len(size_t n)
+{
+    return CREWELMARSH_SOLVE_ANSWER_LEN(n);
+}
+
+static inline size_t crewelmarsh_pseudo_inverse_answer_len(size_t m, size_t n)
+{
+    return CREWELMARSH_PSEUDO_INVERSE_ANSWER_LEN(m, n);
+}
+
 static inline size_t crewelmarsh_qr_q_answer_len(size_t m, size_t k)
 {
-    return crewelmarsh_matrix_len(m, k);
+    return CREWELMARSH_QR_Q_ANSWER_LEN(m, k);
 }
 
 /*
@@ -280,17 +342,32 @@ struct crewelmarsh_answer crewelmarsh_svd(
     double *work, size_t work_len,
     double *result, size_t result_len);
 
+/* `length` numbers of an array from index `start` on. */
+struct crewelmarsh_extent {
+    size_t start;
+    size_t length;
+};
+
+/*
+ * Where row j of V^T stands in an svd's result of result_len numbers: n numbers from an index on. Start and
+ * length are 0 where j is not below r, V^T wasn't wanted, a dimension is over 256 or result_len is not the
+ * length of such a result.
+ */
+struct crewelmarsh_extent crewelmarsh_vt_row_extent(
+    size_t m,
+    size_t n,
+    size_t has_u,
+    size_t has_vt,
+    size_t result_len,
+    size_t j);
+
 /* Part of an array: `length` numbers from `start`. */
 struct crewelmarsh_part {
     const double *start;
     size_t length;
 };
 
-/*
- * Row j of V^T, as the part of an svd's result that it is: n numbers, with no copy. The empty part at
- * the array's start, where j is not below r, V^T wasn't wanted, a dimension is over 256 or result_len is
- * not the length of such a result.
- */
+/* Row j of V^T, as that part of an svd's result, with no copy; else the empty part at the array's start. */
 static inline struct crewelmarsh_part crewelmarsh_vt_row(
     size_t m,
     size_t n,
@@ -299,17 +376,10 @@ static inline struct crewelmarsh_part crewelmarsh_vt_row(
     const double *result, size_t result_len,
     size_t j)
 {
+    struct crewelmarsh_extent at = crewelmarsh_vt_row_extent(m, n, has_u, has_vt, result_len, j);
     struct crewelmarsh_part row;
-    row.start = result;
-    row.length = 0;
-    if (m > CREWELMARSH_MAX_DIMENSION || n > CREWELMARSH_MAX_DIMENSION || !has_vt)
-        return row;
-    if (result_len != crewelmarsh_svd_result_len(m, n, has_u, has_vt))
-        return row;
-    if (j >= crewelmarsh_svd_values_len(m, n))
-        return row;
-    row.start = result + crewelmarsh_svd_result_len(m, n, has_u, 0) + j * n;
-    row.length = n;
+    row.start = at.length == 0 ? result : result + at.start; /* C has no NULL + 0 */
+    row.length = at.length;
     return row;
 }
 

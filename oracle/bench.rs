@@ -39,15 +39,15 @@ macro_rules! entries {
 }
 
 entries! {
-    fn crewelmarsh_symmetric_eigen(n: usize, limit: usize, matrix: *const f64, matrix_len: usize, work: *mut f64, work_len: usize,
+    fn crewelmarsh_symmetric_eigen_abi1(n: usize, limit: usize, matrix: *const f64, matrix_len: usize, work: *mut f64, work_len: usize,
         result: *mut f64, result_len: usize);
-    fn crewelmarsh_svd(m: usize, n: usize, want_u: usize, want_vt: usize, limit: usize, matrix: *const f64, matrix_len: usize,
+    fn crewelmarsh_svd_abi1(m: usize, n: usize, want_u: usize, want_vt: usize, limit: usize, matrix: *const f64, matrix_len: usize,
         work: *mut f64, work_len: usize, result: *mut f64, result_len: usize);
-    fn crewelmarsh_solve(m: usize, n: usize, has_u: usize, has_vt: usize, tolerance: f64, decomposition: *const f64,
+    fn crewelmarsh_solve_abi1(m: usize, n: usize, has_u: usize, has_vt: usize, tolerance: f64, decomposition: *const f64,
         decomposition_len: usize, right_side: *const f64, right_side_len: usize, answer: *mut f64, answer_len: usize);
-    fn crewelmarsh_pseudo_inverse(m: usize, n: usize, has_u: usize, has_vt: usize, tolerance: f64, decomposition: *const f64,
+    fn crewelmarsh_pseudo_inverse_abi1(m: usize, n: usize, has_u: usize, has_vt: usize, tolerance: f64, decomposition: *const f64,
         decomposition_len: usize, answer: *mut f64, answer_len: usize);
-    fn crewelmarsh_qr_q(m: usize, k: usize, matrix: *const f64, matrix_len: usize, answer: *mut f64, answer_len: usize);
+    fn crewelmarsh_qr_q_abi1(m: usize, k: usize, matrix: *const f64, matrix_len: usize, answer: *mut f64, answer_len: usize);
 }
 
 unsafe extern "C" {
@@ -57,27 +57,27 @@ unsafe extern "C" {
 
 fn eigen(n: usize, matrix: &[f64], work: &mut [f64], result: &mut [f64]) -> Answer {
     let (a, w, r) = (matrix.len(), work.len(), result.len());
-    unsafe { crewelmarsh_symmetric_eigen(n, 60, matrix.as_ptr(), a, work.as_mut_ptr(), w, result.as_mut_ptr(), r) }
+    unsafe { crewelmarsh_symmetric_eigen_abi1(n, 60, matrix.as_ptr(), a, work.as_mut_ptr(), w, result.as_mut_ptr(), r) }
 }
 
 fn svd(n: usize, matrix: &[f64], work: &mut [f64], result: &mut [f64]) -> Answer {
     let (a, w, r) = (matrix.len(), work.len(), result.len());
-    unsafe { crewelmarsh_svd(n, n, 1, 1, 60, matrix.as_ptr(), a, work.as_mut_ptr(), w, result.as_mut_ptr(), r) }
+    unsafe { crewelmarsh_svd_abi1(n, n, 1, 1, 60, matrix.as_ptr(), a, work.as_mut_ptr(), w, result.as_mut_ptr(), r) }
 }
 
 fn solve(n: usize, given: &[f64], right: &[f64], answer: &mut [f64]) -> Answer {
     let (g, b, a) = (given.len(), right.len(), answer.len());
-    unsafe { crewelmarsh_solve(n, n, 1, 1, 0.0, given.as_ptr(), g, right.as_ptr(), b, answer.as_mut_ptr(), a) }
+    unsafe { crewelmarsh_solve_abi1(n, n, 1, 1, 0.0, given.as_ptr(), g, right.as_ptr(), b, answer.as_mut_ptr(), a) }
 }
 
 fn pseudo_inverse(n: usize, given: &[f64], answer: &mut [f64]) -> Answer {
     let (g, a) = (given.len(), answer.len());
-    unsafe { crewelmarsh_pseudo_inverse(n, n, 1, 1, 0.0, given.as_ptr(), g, answer.as_mut_ptr(), a) }
+    unsafe { crewelmarsh_pseudo_inverse_abi1(n, n, 1, 1, 0.0, given.as_ptr(), g, answer.as_mut_ptr(), a) }
 }
 
 fn qr_q(n: usize, matrix: &[f64], answer: &mut [f64]) -> Answer {
     let (m, a) = (matrix.len(), answer.len());
-    unsafe { crewelmarsh_qr_q(n, n, matrix.as_ptr(), m, answer.as_mut_ptr(), a) }
+    unsafe { crewelmarsh_qr_q_abi1(n, n, matrix.as_ptr(), m, answer.as_mut_ptr(), a) }
 }
 
 // ---------------------------------------------------------------- inputs

@@ -1,29 +1,55 @@
 #!/bin/sh
-# Wrong versions of the patched functions, each behind the C entries in the archive's place. The committed list must
-# find every one: a version that agrees with it on all cases fails this script.
-# Each line of the table is a sed command on src/patched.rs; it must change the text.
+# Wrong versions of the patched functions, each behind the C entries in the archive's place. The committed list and the C tests
+# (tests/*.c) must each find every one: a version that agrees with all cases of the list, or that passes all of the tests, fails this
+# script. The patched functions as they are come first, and must pass both.
+# Each line of the table is a sed command on src/patched.rs (for hypot on src/hypot.rs); it must change the text.
+# Needs rustc, a C and a C++ compiler: RUSTC, CC, CXX.
 set -e
 cd "$(dirname "$0")"
+for tool in "${RUSTC:=rustc}" "${CC:=cc}" "${CXX:=c++}"; do
+    command -v "${tool%% *}" >/dev/null || { echo "mutants: there is no $tool here"; exit 1; }
+done
 out=target/mutants
 mkdir -p $out
+rm -f $out/*.o
+wanted="boundary: $(sed -n 's/^BOUNDARY_CHECKS := //p' ../tools/c.mk) checks, 0 failed"
+
+$CC -std=c99 -O1 -ffp-contract=off -c runner.c -o $out/runner.o
+for test in ../tests/*.c; do
+    $CC -std=c99 -O1 -ffp-contract=off -I../include -c "$test" -o $out/tests_"$(basename "$test" .c)".o
+done
+$CXX -x c++ -std=c++98 -O1 -ffp-contract=off -I../include -c ../tests/header.c -o $out/tests_header_cpp.o
+
+build() { # the text in $out, behind the entries, under both programs
+    $RUSTC --edition 2024 -C opt-level=1 -C panic=abort -A warnings --crate-type staticlib --crate-name mutant $out/entries.rs -o $out/libmutant.a
+    $CC $out/runner.o $out/libmutant.a -lpthread -ldl -lm -o $out/runner
+    $CC $out/tests_*.o $out/libmutant.a -lpthread -ldl -lm -o $out/boundary
+}
+listed() { timeout 60 $out/runner <../crates/replay/stdin >$out/said 2>&1; }
+tested() { timeout 60 $out/boundary >$out/tests 2>&1 && [ "$(tail -n 1 $out/tests)" = "$wanted" ]; }
+
+# What the last line of a run says, if it is the count. A run that crashes, or that is ended after a minute, has none.
+told() { tail -n 1 "$2" | grep "$1" | sed 's/.*, //' | grep . || echo 'no count'; }
+
 left=0
+cp src/entries.rs src/hypot.rs src/patched.rs $out/
+build
+listed || { echo "the patched functions as they are: the list differs; $(tail -n 1 $out/said)"; left=1; }
+tested || { echo "the patched functions as they are: the C tests fail; $(tail -n 1 $out/tests)"; left=1; }
 while IFS='	' read -r name edit; do
-    cp src/entries.rs src/hypot.rs $out/
-    sed "$edit" src/patched.rs >$out/patched.rs
-    case $name in hypot*) cp src/patched.rs $out/patched.rs && sed "$edit" src/hypot.rs >$out/hypot.rs ;; esac
-    if cmp -s src/patched.rs $out/patched.rs && cmp -s src/hypot.rs $out/hypot.rs; then
+    cp src/entries.rs src/hypot.rs src/patched.rs $out/
+    text=patched.rs
+    case $name in hypot*) text=hypot.rs ;; esac
+    sed "$edit" src/$text >$out/$text
+    if cmp -s src/$text $out/$text; then
         echo "$name: the edit changes nothing"
         left=1
         continue
     fi
-    ${RUSTC:-rustc} --edition 2024 -C opt-level=1 -C panic=abort -A warnings --crate-type staticlib --crate-name mutant $out/entries.rs -o $out/libmutant.a
-    ${CC:-cc} -std=c99 -O1 -ffp-contract=off runner.c $out/libmutant.a -lpthread -ldl -lm -o $out/runner
-    if timeout 60 $out/runner <../crates/replay/stdin >$out/said 2>&1; then
-        echo "$name: NOT FOUND"
-        left=1
-    else
-        echo "$name: found; $(tail -1 $out/said)"
-    fi
+    build
+    if listed; then by_list='NOT FOUND'; left=1; else by_list=$(told ', .* differ' $out/said); fi
+    if tested; then by_tests='NOT FOUND'; left=1; else by_tests=$(told 'checks, .* failed' $out/tests); fi
+    echo "$name: list: $by_list; C tests: $by_tests"
 done <<'TABLE'
 norm_sq summed backwards	/let mut norm_sq = 0.0;/,/norm_sq +=/s/for i in 0..rows/for i in (0..rows).rev()/
 refusal over the upper triangle	s/for j in 0..=i {$/for j in 0..n {/;/fn tred2/,$s/for j in 0..n {/for j in 0..n {/

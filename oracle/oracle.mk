@@ -1,5 +1,5 @@
 # Document 000 in Rust, and what is compared with it. Included by the top Makefile; paths are from the repository's root.
-# Needs rustc and a C compiler, no package and no network.
+# Needs rustc and a C compiler (oracle-mutants a C++ compiler too), no package and no network.
 
 RUSTC ?= rustc
 ORACLE := oracle/target
@@ -11,9 +11,9 @@ LARGEST ?= 12
 
 ORACLE_SOURCES := $(wildcard oracle/src/*.rs)
 ORACLE_RUSTC := $(RUSTC) --edition 2024 -C opt-level=3
-ORACLE_ENTRIES := symmetric_eigen svd solve pseudo_inverse qr_q
+ORACLE_ENTRIES := $(ENTRIES:crewelmarsh_%=%)
 
-.PHONY: oracle oracle-check oracle-mutants oracle-standin findings cases compare bench has-rustc
+.PHONY: verbatim oracle oracle-check oracle-mutants oracle-standin findings cases compare bench bench-root has-rustc
 
 has-rustc:
 	@command -v $(RUSTC) >/dev/null || { echo "the oracle is Rust, and there is no $(RUSTC) here"; exit 1; }
@@ -31,6 +31,10 @@ $(ORACLE)/oracle: oracle/src/main.rs $(ORACLE)/liboracle.rlib
 
 oracle: $(ORACLE)/oracle
 
+# The oracle's copy of document 000 is the document's text: by a stored sum, and by the document itself with DOCUMENT_000=its path.
+verbatim:
+	@oracle/verbatim.sh
+
 # The oracle against itself: the text is document 000's; where the patched functions answer 0, document 000 gives the
 # same bits; the committed list is what the oracle writes.
 oracle-check: $(ORACLE)/oracle
@@ -40,9 +44,9 @@ oracle-check: $(ORACLE)/oracle
 	$(ORACLE)/oracle list | cmp - crates/replay/stdin
 	$(ORACLE)/oracle agreed | cmp - crates/replay/stdout
 
-# The committed list finds every wrong version of a table of them.
+# The committed list and the C tests each find every wrong version of a table of them.
 oracle-mutants: has-rustc
-	RUSTC=$(RUSTC) CC=$(CC) oracle/mutants.sh
+	RUSTC=$(RUSTC) CC='$(CC)' CXX='$(CXX)' oracle/mutants.sh
 
 # What docs/FINDINGS.md tells, run again.
 findings: $(ORACLE)/oracle
@@ -101,3 +105,11 @@ $(ORACLE)/bench: oracle/bench.rs $(ORACLE)/liboracle.rlib $(MEASURED)
 
 bench: $(ORACLE)/bench
 	$(ORACLE)/bench
+
+# A copy of the root in C and the school method, held to the processor's root and measured; no archive and no rustc.
+$(ORACLE)/root: oracle/root.c
+	@mkdir -p $(ORACLE)
+	$(CC) -std=c99 -Wall -Wextra -O2 -ffp-contract=off -fno-math-errno -fno-tree-vectorize $< -o $@
+
+bench-root: $(ORACLE)/root
+	$(ORACLE)/root

@@ -12,14 +12,20 @@ struct answer {
     word answer, place, count;
 };
 
-struct answer crewelmarsh_symmetric_eigen(word n, word limit, const double *, word, double *, word, double *, word);
-struct answer crewelmarsh_svd(word m, word n, word want_u, word want_vt, word limit, const double *, word, double *, word,
+struct answer crewelmarsh_symmetric_eigen_abi1(word n, word limit, const double *, word, double *, word, double *, word);
+struct answer crewelmarsh_svd_abi1(word m, word n, word want_u, word want_vt, word limit, const double *, word, double *, word,
                               double *, word);
-struct answer crewelmarsh_solve(word m, word n, word has_u, word has_vt, double tolerance, const double *, word,
+struct answer crewelmarsh_solve_abi1(word m, word n, word has_u, word has_vt, double tolerance, const double *, word,
                                 const double *, word, double *, word);
-struct answer crewelmarsh_pseudo_inverse(word m, word n, word has_u, word has_vt, double tolerance, const double *, word,
+struct answer crewelmarsh_pseudo_inverse_abi1(word m, word n, word has_u, word has_vt, double tolerance, const double *, word,
                                          double *, word);
-struct answer crewelmarsh_qr_q(word m, word k, const double *, word, double *, word);
+struct answer crewelmarsh_qr_q_abi1(word m, word k, const double *, word, double *, word);
+
+struct extent {
+    word start, length;
+};
+
+struct extent crewelmarsh_vt_row_extent_abi1(word m, word n, word has_u, word has_vt, word result_len, word j);
 
 enum { EIGEN = 1, SVD, SOLVE, PSEUDO_INVERSE, QR_Q, VT_ROW };
 
@@ -121,6 +127,15 @@ static double shown[ROOM];
 /* An empty slice is passed as (NULL, 0) in every second case. */
 static double *slice(struct array *x, word turn) { return x->len == 0 && turn % 2 ? 0 : start(x); }
 
+/* The row of V^T in `a`, laid out as a result; its length, or a length that no row has where it leaves `a`. */
+static word row(struct extent at) {
+    if (at.start > a.len || at.length > a.len - at.start) return ~0ul;
+    lay(&result, at.length);
+    memcpy(start(&result), start(&a) + at.start, 8 * at.length);
+    keep(&result);
+    return at.length;
+}
+
 int main(void) {
     word total[7] = {0}, agree[7] = {0}, turn = 0, told = 0;
     for (;; turn++) {
@@ -151,12 +166,12 @@ int main(void) {
         double *pa = slice(&a, turn), *pb = slice(&b, turn), *pw = slice(&work, turn), *pr = slice(&result, turn);
         double tolerance = number(p[4]);
         switch (f) {
-        case EIGEN: got = crewelmarsh_symmetric_eigen(p[0], p[1], pa, a.len, pw, work.len, pr, result.len); break;
-        case SVD: got = crewelmarsh_svd(p[0], p[1], p[2], p[3], p[4], pa, a.len, pw, work.len, pr, result.len); break;
-        case SOLVE: got = crewelmarsh_solve(p[0], p[1], p[2], p[3], tolerance, pa, a.len, pb, b.len, pr, result.len); break;
-        case PSEUDO_INVERSE: got = crewelmarsh_pseudo_inverse(p[0], p[1], p[2], p[3], tolerance, pa, a.len, pr, result.len); break;
-        case QR_Q: got = crewelmarsh_qr_q(p[0], p[1], pa, a.len, pr, result.len); break;
-        default: continue; /* the row of V^T has no C entry */
+        case EIGEN: got = crewelmarsh_symmetric_eigen_abi1(p[0], p[1], pa, a.len, pw, work.len, pr, result.len); break;
+        case SVD: got = crewelmarsh_svd_abi1(p[0], p[1], p[2], p[3], p[4], pa, a.len, pw, work.len, pr, result.len); break;
+        case SOLVE: got = crewelmarsh_solve_abi1(p[0], p[1], p[2], p[3], tolerance, pa, a.len, pb, b.len, pr, result.len); break;
+        case PSEUDO_INVERSE: got = crewelmarsh_pseudo_inverse_abi1(p[0], p[1], p[2], p[3], tolerance, pa, a.len, pr, result.len); break;
+        case QR_Q: got = crewelmarsh_qr_q_abi1(p[0], p[1], pa, a.len, pr, result.len); break;
+        default: got.answer = row(crewelmarsh_vt_row_extent_abi1(p[0], p[1], p[2], p[3], a.len, p[4]));
         }
         int good = got.answer == wanted.answer && got.place == wanted.place && got.count == wanted.count;
         good &= untouched(&a) & untouched(&b);
@@ -172,7 +187,7 @@ int main(void) {
                    got.count, wanted.answer, wanted.place, wanted.count);
     }
     word bad = 0, calls = 0;
-    for (int f = EIGEN; f <= QR_Q; f++) {
+    for (int f = EIGEN; f <= VT_ROW; f++) {
         printf("%s: %lu of %lu agree\n", names[f], agree[f], total[f]);
         bad += total[f] - agree[f];
         calls += total[f];

@@ -11,6 +11,8 @@ int main(void)
     test_symmetric_eigen();
     group("svd");
     test_svd();
+    group("row of V^T");
+    test_row();
     group("solve");
     test_solve();
     group("pseudo_inverse");

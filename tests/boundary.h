@@ -59,6 +59,9 @@ struct call qr_q_call(size_t m, size_t k, const double *matrix);
  */
 void expect(const char *what, struct call c, size_t answer, size_t place, size_t count, const double *out);
 
+/* The same for an answer 0 whose result, at most 64 long, is given by its bits. */
+void expect_bits(const char *what, struct call c, size_t count, const uint64_t *bits);
+
 /* The same, for an answer 0 whose count and numbers are not known beforehand: copies the result to `out`
    and gives the count. */
 size_t expect_done(const char *what, struct call c, double *out);
@@ -76,6 +79,7 @@ void header_from_c(void (*check_one)(int good, const char *what));
 void header_from_cpp(void (*check_one)(int good, const char *what));
 void test_symmetric_eigen(void);
 void test_svd(void);
+void test_row(void);
 void test_solve(void);
 void test_pseudo_inverse(void);
 void test_qr_q(void);

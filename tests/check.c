@@ -211,6 +211,15 @@ void expect(const char *what, struct call c, size_t answer, size_t place, size_t
         check_aspect(out_is(out, c.out_len), what, ": the bits of the result");
 }
 
+void expect_bits(const char *what, struct call c, size_t count, const uint64_t *bits)
+{
+    double out[64];
+    size_t i;
+    for (i = 0; i < c.out_len; i++)
+        out[i] = from_bits(bits[i]);
+    expect(what, c, 0, 0, count, out);
+}
+
 size_t expect_done(const char *what, struct call c, double *out)
 {
     struct crewelmarsh_answer a = run_first(what, &c);

@@ -103,6 +103,34 @@ static void marks(void)
     expect("mark 2", eigen_call(2, third), 8, 2, 1, NULL);
 }
 
+/* A pass that leaves every d finite and an e that is not: without the look at e the answer would be 0. */
+static void mark_by_e(void)
+{
+    double matrix[16] = {0};
+    matrix[0] = matrix[4] = power_of_two(1023);
+    matrix[10] = power_of_two(1021);
+    matrix[12] = 1;
+    matrix[14] = power_of_two(40);
+    expect("mark 1 by e alone", eigen_call(4, matrix), 8, 1, 1, NULL);
+}
+
+/* The bound goes by the largest |d| + |e| so far: the 1 of l = 0 holds at l = 1 too, where d is 0 and e 2^-52. */
+static void bound_is_kept(void)
+{
+    double matrix[9] = {0, 0, 0, 0, 1, 0, 0, 0, 0};
+    double result[12] = {0, 0, 1, 1, 0, 0, 0, 0, 1, 0, 1, 0};
+    matrix[6] = power_of_two(-52);
+    expect("the bound is kept", eigen_call(3, matrix), 0, 0, 0, result);
+}
+
+/* Only a smaller value moves forward. */
+static void equal_values(void)
+{
+    double identity[4] = {1, 0, 0, 1};
+    double result[6] = {1, 1, 1, 0, 0, 1};
+    expect("equal values keep their order", eigen_call(2, identity), 0, 0, 0, result);
+}
+
 /* At a limit of 1 to 3 passes for each value. The count is of all passes. */
 static void limits(void)
 {
@@ -136,6 +164,9 @@ void test_symmetric_eigen(void)
     lengths();
     not_finite();
     marks();
+    mark_by_e();
+    bound_is_kept();
+    equal_values();
     limits();
     large_limits();
 }

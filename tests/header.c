@@ -1,5 +1,5 @@
 /*
- * The header by itself: its constants, texts, lengths and rows, and that the five names link. Compiled
+ * The header by itself: its version, constants, texts, lengths and rows, and that the entries link. Compiled
  * as C99 and as C++, both linked and run. The header comes first, and twice.
  */
 #include "crewelmarsh.h"
@@ -13,6 +13,41 @@ extern "C" void header_from_cpp(void (*check)(int good, const char *what));
 void header_from_c(void (*check)(int good, const char *what));
 #define TEST_HEADER header_from_c
 #endif
+
+/* Lengths that the compiler works out: an array's length, or a refusal to compile. */
+#define SAME(name, a, b) typedef char name[(a) == (b) ? 1 : -1]
+SAME(matrix, CREWELMARSH_MATRIX_LEN(3, 2), 6);
+SAME(matrix_most, CREWELMARSH_MATRIX_LEN(256, 256), 65536);
+SAME(matrix_over, CREWELMARSH_MATRIX_LEN(257, 1), 0);
+SAME(matrix_negative, CREWELMARSH_MATRIX_LEN(1, -1), 0);
+SAME(values_tall, CREWELMARSH_SVD_VALUES_LEN(3, 2), 2);
+SAME(values_wide, CREWELMARSH_SVD_VALUES_LEN(2, 3), 2);
+SAME(values_over, CREWELMARSH_SVD_VALUES_LEN(257, 3), 0);
+SAME(eigen_work, CREWELMARSH_SYMMETRIC_EIGEN_WORK_LEN(2 + 3), 5);
+SAME(eigen_result, CREWELMARSH_SYMMETRIC_EIGEN_RESULT_LEN(2 + 3), 30);
+SAME(eigen_over, CREWELMARSH_SYMMETRIC_EIGEN_RESULT_LEN(257), 0);
+SAME(svd_work, CREWELMARSH_SVD_WORK_LEN(3, 2), 12);
+SAME(svd_work_most, CREWELMARSH_SVD_WORK_LEN(256, 256), 131328);
+SAME(svd_result, CREWELMARSH_SVD_RESULT_LEN(1 + 2, 2, 1, 1), 12);
+SAME(svd_result_u, CREWELMARSH_SVD_RESULT_LEN(3, 1 + 1, 2, 0), 8);
+SAME(svd_result_vt, CREWELMARSH_SVD_RESULT_LEN(3, 2, 0, 1 | 2), 6);
+SAME(svd_result_values, CREWELMARSH_SVD_RESULT_LEN(3, 2, 0, 0), 2);
+SAME(solve_right_side, CREWELMARSH_SOLVE_RIGHT_SIDE_LEN(3), 3);
+SAME(solve_answer, CREWELMARSH_SOLVE_ANSWER_LEN(2), 2);
+SAME(inverse_answer, CREWELMARSH_PSEUDO_INVERSE_ANSWER_LEN(3, 2), 6);
+SAME(qr_answer, CREWELMARSH_QR_Q_ANSWER_LEN(3, 2), 6);
+
+#if CREWELMARSH_VERSION_MAJOR < 1
+#error "the version is no number"
+#endif
+
+/* "1.0.0", of one digit each until one has more. */
+static int version_right(void)
+{
+    const char *v = CREWELMARSH_VERSION;
+    return sizeof CREWELMARSH_VERSION == 6 && v[0] - '0' == CREWELMARSH_VERSION_MAJOR && v[1] == '.' &&
+           v[2] - '0' == CREWELMARSH_VERSION_MINOR && v[3] == '.' && v[4] - '0' == CREWELMARSH_VERSION_PATCH;
+}
 
 static const size_t dimensions[] = {0, 1, 2, 3, 17, 255, 256, 257, 4294967296u, (size_t)-1};
 enum { DIMENSIONS = sizeof dimensions / sizeof dimensions[0] };
@@ -100,9 +135,11 @@ static int is_answer(struct crewelmarsh_answer a, size_t answer, size_t place, s
 }
 
 /* An svd runs one sweep over no pair; the others do nothing. */
-static int five_names_link(void)
+static int entries_link(void)
 {
-    return is_answer(crewelmarsh_symmetric_eigen(0, 60, NULL, 0, NULL, 0, NULL, 0), 0, 0, 0) &&
+    struct crewelmarsh_extent none = crewelmarsh_vt_row_extent(0, 0, 1, 1, 0, 0);
+    return none.start == 0 && none.length == 0 &&
+           is_answer(crewelmarsh_symmetric_eigen(0, 60, NULL, 0, NULL, 0, NULL, 0), 0, 0, 0) &&
            is_answer(crewelmarsh_svd(0, 0, 1, 1, 60, NULL, 0, NULL, 0, NULL, 0), 0, 0, 1) &&
            is_answer(crewelmarsh_solve(0, 0, 1, 1, 0.0, NULL, 0, NULL, 0, NULL, 0), 0, 0, 0) &&
            is_answer(crewelmarsh_pseudo_inverse(0, 0, 1, 1, 0.0, NULL, 0, NULL, 0), 0, 0, 0) &&
@@ -111,7 +148,10 @@ static int five_names_link(void)
 
 void TEST_HEADER(void (*check)(int good, const char *what))
 {
+    double declared[CREWELMARSH_SYMMETRIC_EIGEN_RESULT_LEN(5)];
     int i, j;
+    check(sizeof declared == 30 * sizeof(double), "a declared array");
+    check(version_right(), "version");
     check(constants_right(), "constants");
     check(texts_differ(), "texts");
     check(sizeof(struct crewelmarsh_answer) == 3 * sizeof(size_t), "three numbers");
@@ -122,5 +162,5 @@ void TEST_HEADER(void (*check)(int good, const char *what))
     }
     check(rows_right(), "rows of V^T");
     check(empty_rows_right(), "empty rows of V^T");
-    check(five_names_link(), "five names");
+    check(entries_link(), "entries");
 }

@@ -22,14 +22,14 @@ static void make(double *to, size_t length)
 
 static double magnitude(double x) { return x < 0 ? -x : x; }
 
-static double largest_difference(const double *x, const double *y, size_t length)
+/* Comparisons below are so written that a NaN fails them. */
+static int near(const double *x, const double *y, size_t length, double bound)
 {
-    double largest = 0;
     size_t i;
     for (i = 0; i < length; i++)
-        if (magnitude(x[i] - y[i]) > largest)
-            largest = magnitude(x[i] - y[i]);
-    return largest;
+        if (!(magnitude(x[i] - y[i]) < bound))
+            return 0;
+    return 1;
 }
 
 /* Columns p and q of an m by n matrix, multiplied. */
@@ -47,7 +47,7 @@ static int orthonormal_columns(const double *x, size_t m, size_t n)
     size_t p, q;
     for (p = 0; p < n; p++)
         for (q = 0; q <= p; q++)
-            if (magnitude(columns_multiplied(x, m, n, p, q) - (p == q)) > 1e-12)
+            if (!(magnitude(columns_multiplied(x, m, n, p, q) - (p == q)) <= 1e-12))
                 return 0;
     return 1;
 }
@@ -56,7 +56,7 @@ static int ascending(const double *x, size_t n)
 {
     size_t i;
     for (i = 1; i < n; i++)
-        if (x[i] < x[i - 1])
+        if (!(x[i - 1] <= x[i]))
             return 0;
     return 1;
 }
@@ -85,7 +85,7 @@ static void eigen(size_t n)
     check(ascending(answer, n), "eigen: values ascend");
     check(orthonormal_columns(answer + n, n, n), "eigen: vectors orthonormal");
     from_values(answer, answer + n, n);
-    check(largest_difference(a, product, n * n) < 1e-12, "eigen: matrix from values and vectors");
+    check(near(a, product, n * n, 1e-12), "eigen: matrix from values and vectors");
 }
 
 /* U times the values times V^T, in `product`; V^T by the header's rows. */
@@ -124,7 +124,7 @@ static int least_squares(size_t m, size_t n)
         double sum = 0;
         for (i = 0; i < m; i++)
             sum += a[i * n + j] * (b[i] - product[i]);
-        if (magnitude(sum) > 1e-10)
+        if (!(magnitude(sum) <= 1e-10))
             return 0;
     }
     return 1;
@@ -138,7 +138,7 @@ static int inverse_agrees(const double *inverse, const double *x, size_t m, size
         double sum = 0;
         for (i = 0; i < m; i++)
             sum += inverse[j * m + i] * b[i];
-        if (magnitude(sum - x[j]) > 1e-9)
+        if (!(magnitude(sum - x[j]) <= 1e-9))
             return 0;
     }
     return 1;
@@ -152,7 +152,7 @@ static void svd(size_t m, size_t n)
     make(b, m);
     expect_done("svd", svd_call(m, n, 1, 1, a), decomposition);
     from_svd(m, n);
-    check(largest_difference(a, product, m * n) < 1e-12, "svd: matrix from its factors");
+    check(near(a, product, m * n, 1e-12), "svd: matrix from its factors");
     expect_done("solve", solve_call(m, n, decomposition, b), answer);
     check(least_squares(m, n), "solve: least squares");
     for (j = 0; j < n; j++)

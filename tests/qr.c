@@ -20,6 +20,16 @@ static void worked(void)
     expect("2 by 0", qr_q_call(2, 0, NULL), 0, 0, 0, NULL);
 }
 
+/* Bits from the Rust oracle: the second pass changes the last bits of the second column. */
+static void two_passes(void)
+{
+    double matrix[4] = {1, 0, 1, 1};
+    static const uint64_t basis[4] = {
+        UINT64_C(0x3fe6a09e667f3bcc), UINT64_C(0xbfe6a09e667f3bcc),
+        UINT64_C(0x3fe6a09e667f3bcc), UINT64_C(0x3fe6a09e667f3bcd)};
+    expect_bits("two passes", qr_q_call(2, 2, matrix), 0, basis);
+}
+
 /* All is wrong at first; what is found first is mended, and the next is found. */
 static void order_of_tests(void)
 {
@@ -72,6 +82,7 @@ static void columns(void)
 void test_qr_q(void)
 {
     worked();
+    two_passes();
     order_of_tests();
     lengths();
     not_finite();

@@ -154,6 +154,14 @@ static void inverse_worked(void)
     expect("2 by 0", pseudo_inverse_call(2, 0, NULL), 0, 0, 0, NULL);
 }
 
+/* Bits from the Rust oracle: 3 times the rounded 1/5, and that times 3. Nine times the rounded 1/5 is another number. */
+static void inverse_order_of_work(void)
+{
+    static const double decomposition[3] = {5, 3, 3};
+    static const uint64_t inverse[1] = {UINT64_C(0x3ffcccccccccccce)};
+    expect_bits("V^T by the value first", pseudo_inverse_call(1, 1, decomposition), 0, inverse);
+}
+
 static void inverse_order_of_tests(void)
 {
     double decomposition[12];
@@ -209,6 +217,7 @@ static void inverse_mark(void)
 void test_pseudo_inverse(void)
 {
     inverse_worked();
+    inverse_order_of_work();
     inverse_order_of_tests();
     inverse_lengths();
     inverse_not_finite();

@@ -19,6 +19,28 @@ static void worked(void)
     expect("equal values keep their order", svd_call(2, 2, 1, 1, equal), 0, 0, 1, equal_all);
 }
 
+/* Bits from the Rust oracle where another order, sign or bound gives others. */
+static void order_of_work(void)
+{
+    double column[3] = {0.1, 0.1, 0.3};
+    static const uint64_t column_all[5] = {
+        UINT64_C(0x3fd539f5433125c3), UINT64_C(0x3fd34bf63d156826), UINT64_C(0x3fd34bf63d156826),
+        UINT64_C(0x3fecf1f15ba01c39), UINT64_C(0x3ff0000000000000)};
+    double equal_norms[4] = {1, -2, 2, -1};
+    static const uint64_t equal_norms_all[10] = {
+        UINT64_C(0x4007ffffffffffff), UINT64_C(0x3fefffffffffffff),
+        UINT64_C(0x3fe6a09e667f3bcd), UINT64_C(0xbfe6a09e667f3bcd),
+        UINT64_C(0x3fe6a09e667f3bcd), UINT64_C(0x3fe6a09e667f3bcd),
+        UINT64_C(0x3fe6a09e667f3bcc), UINT64_C(0xbfe6a09e667f3bcc),
+        UINT64_C(0x3fe6a09e667f3bcc), UINT64_C(0x3fe6a09e667f3bcc)};
+    double at_bound[4] = {1, 0, 0, 1};
+    double at_bound_all[10] = {1, 1, 1, 0, 0, 1, 1, 0, 0, 1};
+    at_bound[1] = at_bound_all[3] = power_of_two(-52);
+    expect_bits("squares are added from the first row on", svd_call(3, 1, 1, 1, column), 1, column_all);
+    expect_bits("zeta of -0 counts as not negative", svd_call(2, 2, 1, 1, equal_norms), 2, equal_norms_all);
+    expect("gamma equal to the bound does not turn", svd_call(2, 2, 1, 1, at_bound), 0, 0, 1, at_bound_all);
+}
+
 /* No pair to turn: one sweep all the same. */
 static void no_pairs(void)
 {
@@ -152,6 +174,7 @@ static void large_limits(void)
 void test_svd(void)
 {
     worked();
+    order_of_work();
     no_pairs();
     parts_agree();
     flags();

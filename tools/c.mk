@@ -1,30 +1,37 @@
 # The C side: the archive, the example and the test of the boundary, with the toolchain alone. Programs are
 # x86-64; where the machine is not, the toolchain has an emulator and they run under it.
 #
-#   make archive     dist/libcrewelmarsh.a and dist/crewelmarsh.h
-#   make example     builds and runs examples/codec.c
-#   make boundary    the test of the C boundary: header, names, every entry and answer
+#   make archive       dist/libcrewelmarsh.a and dist/crewelmarsh.h
+#   make example       builds and runs examples/codec.c
+#   make example-test  the same, and what it writes is held to examples/codec.expected
+#   make boundary      the test of the C boundary: header, names, every entry and answer
 #
 # ARCHIVE=PATH tests another archive with the same entries.
 
 RT ?= rt
 KIT ?= $(shell dirname "$$(dirname "$$($(RT) doc)")")
-OWN := $(KIT)/on/$(shell uname -m)
-TOOLCHAIN := $(OWN)/toolchain
-CLANG := $(TOOLCHAIN)/bin/clang
-LIBRARY := $(TOOLCHAIN)/lib
-EMULATOR := $(wildcard $(TOOLCHAIN)/bin/qemu-x86_64)
+OWN = $(KIT)/on/$(shell uname -m)
+TOOLCHAIN = $(OWN)/toolchain
+CLANG = $(TOOLCHAIN)/bin/clang
+LIBRARY = $(TOOLCHAIN)/lib
+EMULATOR = $(wildcard $(TOOLCHAIN)/bin/qemu-x86_64)
 LINK = $(OWN)/bin/rattle-link --target x86_64-unknown-linux-gnu --toolchain $(TOOLCHAIN)
 RUN = $(EMULATOR) $(LIBRARY)/ld-linux-x86-64.so.2 --library-path $(LIBRARY)
 
-# rt staticlib proves its crate anew at each call, so it is asked only where a file has changed.
+# rt staticlib proves its crate anew at each call, and what the crate uses only where that has changed since it was last proved. So it is
+# asked only where a file has changed.
 CRATE_FILES := $(shell find crates -name must-fail -prune -o -type f -print)
 ARCHIVE ?= dist/libcrewelmarsh.a
-ENTRIES := crewelmarsh_symmetric_eigen crewelmarsh_svd crewelmarsh_solve crewelmarsh_pseudo_inverse crewelmarsh_qr_q
+
+# The version and the entries' names in the archive, as the header has them.
+said = $(shell sed -n 's/^.define CREWELMARSH_VERSION_$(1) //p' include/crewelmarsh.h)
+MAJOR := $(call said,MAJOR)
+VERSION := $(MAJOR).$(call said,MINOR).$(call said,PATCH)
+ENTRIES := $(shell sed -n 's/^.define \(crewelmarsh_[a-z_]*\) CREWELMARSH_NAME.*/\1_abi$(MAJOR)/p' include/crewelmarsh.h)
 
 # How many checks the boundary's test makes.
-BOUNDARY_CHECKS := 8668
-BOUNDARY_PARTS := boundary check eigen svd solve qr sizes numbers header header_cpp
+BOUNDARY_CHECKS := 10059
+BOUNDARY_PARTS := boundary check eigen svd row solve qr sizes numbers header header_cpp
 BOUNDARY_OBJECTS := $(BOUNDARY_PARTS:%=build/tests/%.o)
 
 TARGET_FLAGS := --target=x86_64-unknown-linux-gnu -march=x86-64 --no-default-config \
@@ -34,11 +41,11 @@ C99 = $(CLANG) $(TARGET_FLAGS) $(WARNINGS) -std=c99
 CPLUSPLUS = $(CLANG) $(TARGET_FLAGS) $(WARNINGS) -x c++ -std=c++98
 HEADERS := include/crewelmarsh.h $(wildcard tools/headers/*.h)
 
-.PHONY: archive example boundary boundary-names boundary-header boundary-run FORCE
+.PHONY: archive example example-test boundary boundary-names boundary-header boundary-run FORCE
 
 archive: dist/libcrewelmarsh.a dist/crewelmarsh.h
 
-dist/libcrewelmarsh.a: crates.txt $(CRATE_FILES)
+dist/libcrewelmarsh.a: crates.txt $(CRATE_FILES) | kit
 	$(RT) staticlib crewelmarsh
 	@mkdir -p dist
 	cp target/staticlib/libcrewelmarsh.a $@
@@ -49,6 +56,12 @@ dist/crewelmarsh.h: include/crewelmarsh.h
 
 example: build/examples/codec
 	@$(RUN) $<
+
+# Both the status and every line.
+example-test: build/examples/codec
+	@if ! $(RUN) $< >$<.out; then cat $<.out; echo 'example: it says that it is not good'; exit 1; fi
+	@cmp $<.out examples/codec.expected || { cat $<.out; echo 'example: examples/codec.expected was expected'; exit 1; }
+	@echo "example: $$(wc -l <$<.out) lines, as expected"
 
 build/examples/codec: build/examples/codec.o $(ARCHIVE) FORCE
 	@$(LINK) -o $@ $(filter-out FORCE,$^) 2>$@.log || { cat $@.log; exit 1; }

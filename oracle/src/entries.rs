@@ -1,7 +1,7 @@
 //! `patched` behind the C entries of include/crewelmarsh.h: an archive that stands in for the real one where a
 //! test or a driver is tried by itself.
 
-// The row of V^T and the method `hypot01` have no entry.
+// The method `hypot01` has no entry.
 #[allow(dead_code)]
 mod hypot;
 #[allow(dead_code)]
@@ -19,7 +19,7 @@ unsafe fn lent_mut<'a>(start: *mut f64, len: usize) -> &'a mut [f64] {
 }
 
 #[unsafe(no_mangle)]
-pub unsafe extern "C" fn crewelmarsh_symmetric_eigen(
+pub unsafe extern "C" fn crewelmarsh_symmetric_eigen_abi1(
     n: usize,
     limit: usize,
     matrix: *const f64,
@@ -35,7 +35,7 @@ pub unsafe extern "C" fn crewelmarsh_symmetric_eigen(
 }
 
 #[unsafe(no_mangle)]
-pub unsafe extern "C" fn crewelmarsh_svd(
+pub unsafe extern "C" fn crewelmarsh_svd_abi1(
     m: usize,
     n: usize,
     want_u: usize,
@@ -54,8 +54,27 @@ pub unsafe extern "C" fn crewelmarsh_svd(
     }
 }
 
+#[repr(C)]
+pub struct Extent {
+    start: usize,
+    length: usize,
+}
+
 #[unsafe(no_mangle)]
-pub unsafe extern "C" fn crewelmarsh_solve(
+pub extern "C" fn crewelmarsh_vt_row_extent_abi1(
+    m: usize,
+    n: usize,
+    has_u: usize,
+    has_vt: usize,
+    result_len: usize,
+    j: usize,
+) -> Extent {
+    let (start, length) = patched::vt_row_at(m, n, has_u, has_vt, j, result_len);
+    Extent { start, length }
+}
+
+#[unsafe(no_mangle)]
+pub unsafe extern "C" fn crewelmarsh_solve_abi1(
     m: usize,
     n: usize,
     has_u: usize,
@@ -75,7 +94,7 @@ pub unsafe extern "C" fn crewelmarsh_solve(
 }
 
 #[unsafe(no_mangle)]
-pub unsafe extern "C" fn crewelmarsh_pseudo_inverse(
+pub unsafe extern "C" fn crewelmarsh_pseudo_inverse_abi1(
     m: usize,
     n: usize,
     has_u: usize,
@@ -93,7 +112,7 @@ pub unsafe extern "C" fn crewelmarsh_pseudo_inverse(
 }
 
 #[unsafe(no_mangle)]
-pub unsafe extern "C" fn crewelmarsh_qr_q(
+pub unsafe extern "C" fn crewelmarsh_qr_q_abi1(
     m: usize,
     k: usize,
     matrix: *const f64,

@@ -102,6 +102,32 @@ fn surveys() {
     println!("of {all} singular 2 by 2 matrices of 0 to 7, svd refuses {refused} with 9");
 }
 
+/// Finding 10: a random matrix scaled by a power of two has the scaled values, but where its numbers are small. How many of 200
+/// answer 0 with a value that is off by more than 1e-10 of the largest.
+fn scaled() {
+    for n in [1, 2, 3, 8, 20] {
+        let mut rng = Random::new(1);
+        let powers = [-510, -515, -518, -520, -522, -525, -600];
+        let mut off = powers.map(|_| 0);
+        for _ in 0..200 {
+            let a: Vec<f64> = (0..n * n).map(|_| rng.unit()).collect();
+            let values = |a: Vec<f64>| {
+                let done = Case::new(EIGEN, &[n as u64, 60], a).outcome();
+                (done.answer.answer == 0).then(|| done.result[..n].to_vec())
+            };
+            let plain = values(a.clone()).expect("ordinary numbers");
+            let largest = plain.iter().fold(0.0, |x: f64, y| x.max(y.abs()));
+            for (count, k) in off.iter_mut().zip(powers) {
+                let Some(small) = values(a.iter().map(|x| x * two(k)).collect()) else { continue };
+                let back = small.iter().map(|x| x / two(k));
+                *count += back.zip(&plain).any(|(x, y)| (x - y).abs() > 1e-10 * largest) as usize;
+            }
+        }
+        let told: Vec<String> = off.iter().zip(powers).map(|(count, k)| format!("2^{k} {count}")).collect();
+        println!("200 random {n} by {n} scaled down, answer 0 with a value off by more than 1e-10: {}", told.join(", "));
+    }
+}
+
 pub fn print() {
     std::panic::set_hook(Box::new(|_| {}));
     let names = ["", "symmetric_eigen", "svd", "", "", "qr_q"];
@@ -114,4 +140,5 @@ pub fn print() {
         println!("    document 000: {}", document(&case));
     }
     surveys();
+    scaled();
 }

@@ -432,10 +432,15 @@ fn turn(rows: usize, n: usize, p: usize, q: usize, c: f64, s: f64, a: &mut [f64]
 
 /// Start and length of row j of V^T in a decomposition, (0, 0) where there is none.
 pub fn vt_row(m: usize, n: usize, has_u: usize, has_vt: usize, j: usize, decomposition: &[f64]) -> (usize, usize) {
+    vt_row_at(m, n, has_u, has_vt, j, decomposition.len())
+}
+
+/// The same by the decomposition's length alone.
+pub fn vt_row_at(m: usize, n: usize, has_u: usize, has_vt: usize, j: usize, len: usize) -> (usize, usize) {
     if m > LARGEST || n > LARGEST || has_vt == 0 || j >= m.min(n) {
         return (0, 0);
     }
-    if decomposition.len() != decomposition_length(m, n, has_u, has_vt) {
+    if len != decomposition_length(m, n, has_u, has_vt) {
         return (0, 0);
     }
     let r = m.min(n);

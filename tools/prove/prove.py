@@ -3,10 +3,10 @@
 
 Writes crates/CRATE/proofs/FN/Proof.antt from a short answers file beside it, crates/CRATE/proofs/FN/answers, and checks the crate.
 The needs are those that `rt dev` prints for a function with no proof; the paths into `c` come from the generated Lts, so that an
-answers file names a place and never counts `.before`. After an edit of the code run it again.
+answers file names a place and never counts `.before`. After an edit of the code run it again, then `rt fmt`.
 
 An answers file has lines 'name: term'; a line that starts with a blank goes on with the term above it.
-  comment: words            after "meets its contract." in the file's first line
+  comment: words            after "meets its contract." in the file's second line
   use: Module.{a, b}        an import (may be repeated)
   pre: text                 declarations to stand before the answers, each line two blanks in, an empty line as ' .'
   Inv-loop: term            the invariant, the measure (μ-loop) or the answer of that need
@@ -19,7 +19,9 @@ entry, in code order, {calls a b} the same without a and b; {fwd} the same forwa
 """
 import os, re, subprocess, sys
 
-LOOP = ['upto', 'start', 'more', 'next', 'done', 'down', 'down-more', 'down-done']
+GENERATED = '-- Generated from the answers file beside it by tools/prove/prove.py: edit that.'
+LOOP = ['upto', 'down']
+LAWS = ['start', 'more', 'next', 'done', 'down-more', 'down-done']
 
 
 def run(crate, *words):
@@ -92,7 +94,7 @@ class Places:
 
 
 def word(name):
-    return r'(?<![\w-])' + re.escape(name) + r'(?![\w-])'
+    return r'(?<![\w.-])' + re.escape(name) + r'(?![\w-])'
 
 
 def imports(text, crate, uses):
@@ -109,20 +111,18 @@ def imports(text, crate, uses):
     take('native.Mathlib.Omega', [('arith', word('arith'))])
     take('borrow.Author.Needs', [('needs', 'search needs')])
     take('lib.ListN', [(n, word(n)) for n in ('length', 'getD', 'set', 'length-set')])
-    take('Rattle.grid.specs.Loop' if crate == 'grid' else 'Rattle.grid.specs.Loop', [(n, word(n)) for n in LOOP])
+    specs = 'Rattle.grid.specs' if crate == 'grid' else 'Rattle.grid.specs'
+    take(specs + '.Loop', [(n, word(n)) for n in LOOP])
+    take(specs + '.LoopLaws', [(n, word(n)) for n in LAWS])
     return lines + ['use ' + u for u in uses]
 
 
-def write(crate, fn, printed):
-    folder = f'crates/{crate}/proofs/{fn}'
-    full = os.path.join(os.getcwd(), folder, 'Proof.antt')
-    m = re.search(r'help: write \S*%s with these lines.*?\n((?:    .*\n)+)' % re.escape(f'{folder}/Proof.antt'), printed)
-    if not m:
-        return False
-    answers, uses, unfold = read_answers(f'{folder}/answers')
+def proof(crate, fn, needs):
+    """The text of a Proof.antt: the lines of `needs` (as `rt dev` prints them) with each hole filled."""
+    answers, uses, unfold = read_answers(f'crates/{crate}/proofs/{fn}/answers')
     places = Places(f'target/gen/Rattle.{crate}.proofs/proofs/{fn}/Lts.antt')
     out, heads = [], []
-    for line in (l[4:] for l in m.group(1).split('\n')):
+    for line in needs:
         if line.startswith('-- src') or re.match(r'use .* as (reads|lts|\w[\w-]*-reads)$', line):
             continue
         if line.startswith('use '):
@@ -148,7 +148,16 @@ def write(crate, fn, printed):
     pre = '\n'.join(l[2:] if l.startswith('  ') else l.strip(' .') for l in answers.get('pre', '').strip('\n').split('\n'))
     body = '\n'.join(out).strip('\n')
     first = f'-- `{crate}::{fn.replace("/", "::")}` meets its contract. {answers.get("comment", "")}'.rstrip()
-    text = '\n'.join([first] + imports(body + pre, crate, uses) + heads) + '\n\n' + (pre + '\n\n' if pre else '') + body + '\n'
+    text = '\n'.join([GENERATED, first] + imports(body + pre, crate, uses) + heads) + '\n\n' + (pre + '\n\n' if pre else '') + body + '\n'
+    return text
+
+
+def write(crate, fn, printed):
+    full = f'crates/{crate}/proofs/{fn}/Proof.antt'
+    m = re.search(r'help: write \S*%s with these lines.*?\n((?:    .*\n)+)' % re.escape(full), printed)
+    if not m:
+        return False
+    text = proof(crate, fn, [line[4:] for line in m.group(1).split('\n')])
     open(full, 'w').write(text)
     print(f'{fn}: {text.count(chr(10))} lines')
     return True
@@ -179,4 +188,5 @@ def main():
     print('whole output: target/last.out')
 
 
-main()
+if __name__ == '__main__':
+    main()

@@ -1,9 +1,6 @@
--- The three numbers that a call comes back with, and the checks that several calls share. Definitions, and the bounds of a decomposition's length.
-use mathlib.Core.Path.{_≡_, refl}
-use mathlib.Core.Bool.{Bool, true, false, cond, _&&_}
-use Prim.Native.Nat.{ℕ, _+_, _*_, _≤_}
-use native.Mathlib.Nat.{mul-le-mul, le-refl}
-use native.Mathlib.Omega.{arith}
+-- The three numbers that a call comes back with, and the checks that several calls share. Definitions only.
+use mathlib.Core.Bool.{Bool, cond, _&&_}
+use Prim.Native.Nat.{ℕ, _+_, _*_}
 use lib.Dec.{ltb, leb, eqb}
 use lib.ListN.{length}
 use Rattle.grid.specs.Real.{Vec, zeros}
@@ -15,7 +12,7 @@ use Rattle.answers.specs.declared.Answer.{Answer}
 abbrev pub answered : ℕ → ℕ → ℕ → Answer
 answered a p c = record { answer = a; place = p; count = c }
 
--- done, after so many passes or sweeps
+-- done, after so many passes or sweeps; of a check: it refuses nothing
 abbrev pub done : ℕ → Answer
 done c = answered 0 0 c
 
@@ -23,10 +20,7 @@ done c = answered 0 0 c
 abbrev pub refused : ℕ → ℕ → Answer
 refused a p = answered a p 0
 
--- a check that refuses nothing
-abbrev pub pass : Answer
-pass = answered 0 0 0
-
+-- nothing is refused
 abbrev pub passed : Answer → Bool
 passed x = eqb (x .answer) 0
 
@@ -37,14 +31,24 @@ emptied a p x = (refused a p, zeros (length x))
 -- refusal 7: the place is the index of the number that is not finite
 abbrev pub refusal7 : Bad → Answer
 refusal7 (At k) = refused 7 k
-refusal7 Nowhere = pass
+refusal7 Nowhere = done 0
+
+-- or else the rest, where x is the one array that the refusal fills with +0.0
+abbrev pub unlessBad : Bad → Vec → Answer × Vec → Answer × Vec
+unlessBad (At k) x rest = emptied 7 k x
+unlessBad Nowhere x rest = rest
+
+-- the index where so many other numbers are counted before the list
+abbrev pub behind : ℕ → Bad → Bad
+behind before (At i) = At (before + i)
+behind before Nowhere = Nowhere
 
 unfoldable pub limitGood : ℕ → Bool
 limitGood limit = leb 1 limit && leb limit 60
 
 -- refusal 6: the place is the first array whose length is not the one wanted
 unfoldable pub lengths : ℕ → ℕ → ℕ → ℕ → ℕ → ℕ → Answer
-lengths a wantA b wantB c wantC = cond (eqb a wantA) (cond (eqb b wantB) (cond (eqb c wantC) pass (refused 6 2)) (refused 6 1)) (refused 6 0)
+lengths a wantA b wantB c wantC = cond (eqb a wantA) (cond (eqb b wantB) (cond (eqb c wantC) (done 0) (refused 6 2)) (refused 6 1)) (refused 6 0)
 
 -- r, the smaller of m and n
 unfoldable pub least : ℕ → ℕ → ℕ
@@ -57,25 +61,3 @@ present flag count = cond (eqb flag 0) 0 count
 -- the length of an svd result: the values, then U and V^T where they are there
 unfoldable pub decompositionLength : ℕ → ℕ → ℕ → ℕ → ℕ
 decompositionLength m n u vt = least m n + present u (m * least m n) + present vt (least m n * n)
-
--- ---- bounds
-
-pub least-le : (m n k : ℕ) → m ≤ k → n ≤ k → least m n ≤ k
-unfolding least
-least-le m n k p q = go (ltb m n)
-  where
-    go : (b : Bool) → cond b m n ≤ k
-    go true = p
-    go false = q
-
-pub present-le : (flag count k : ℕ) → count ≤ k → present flag count ≤ k
-unfolding present
-present-le flag count k h = go (eqb flag 0)
-  where
-    go : (b : Bool) → cond b 0 count ≤ k
-    go true = omega arith
-    go false = h
-
--- 256 values and two matrices of 256 by 256 at the most
-pub product-le : (a b : ℕ) → a ≤ 256 → b ≤ 256 → a * b ≤ 65536
-product-le a b p q = mul-le-mul p q

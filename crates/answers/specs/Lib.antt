@@ -1,4 +1,5 @@
 -- The answer of a call, and the checks that several calls share.
 pub mod Answers
+pub mod AnswersLaws
 pub mod Early
 pub mod OutcomeLaws

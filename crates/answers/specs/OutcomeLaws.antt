@@ -6,11 +6,11 @@ use native.Mathlib.Omega.{arith}
 use borrow.Author.Tests.{le-leb, leb-true, eq-eqb, ne-eqb, eqb-true, eqb-false}
 use lib.Dec.{leb, eqb}
 use lib.ListN.{length}
-use Rattle.grid.specs.Real.{Vec}
+use Rattle.grid.specs.Real.{Vec, zeros}
 use Rattle.leaves.specs.Finite.{Finite}
 use Rattle.leaves.specs.declared.Bad.{Bad}
 use Rattle.leaves.specs.declared.Bad.the-variants.{At, Nowhere}
-use Rattle.answers.specs.Answers.{refused, pass, passed, limitGood, lengths, present, refusal7}
+use Rattle.answers.specs.Answers.{done, refused, passed, limitGood, lengths, present, refusal7, unlessBad}
 use Rattle.answers.specs.Early.{Early}
 use Rattle.answers.specs.declared.Answer.{Answer}
 
@@ -31,7 +31,7 @@ unfolding lengths
 lengths-right a wa b wb c wc = go (eqb a wa) refl (eqb b wb) refl (eqb c wc) refl
   where
     go : (p : Bool) → eqb a wa ≡ p → (q : Bool) → eqb b wb ≡ q → (r : Bool) → eqb c wc ≡ r
-        → cond p (cond q (cond r pass (refused 6 2)) (refused 6 1)) (refused 6 0) .answer ≡ 0 → (a ≡ wa) × (b ≡ wb) × (c ≡ wc)
+        → cond p (cond q (cond r (done 0) (refused 6 2)) (refused 6 1)) (refused 6 0) .answer ≡ 0 → (a ≡ wa) × (b ≡ wb) × (c ≡ wc)
     go true e true f true g h = (eqb-true a wa e, eqb-true b wb f, eqb-true c wc g)
     go true e true f false g h = absurd (omega arith)
     go true e false f r g h = absurd (omega arith)
@@ -60,7 +60,7 @@ pub lengths-few : (a wa b wb c wc : ℕ) → lengths a wa b wb c wc .answer ≤ 
 unfolding lengths
 lengths-few a wa b wb c wc = go (eqb a wa) (eqb b wb) (eqb c wc)
   where
-    go : (p q r : Bool) → cond p (cond q (cond r pass (refused 6 2)) (refused 6 1)) (refused 6 0) .answer ≤ 6
+    go : (p q r : Bool) → cond p (cond q (cond r (done 0) (refused 6 2)) (refused 6 1)) (refused 6 0) .answer ≤ 6
     go true true true = omega arith
     go true true false = omega arith
     go true false r = omega arith
@@ -90,6 +90,11 @@ old S answer c o p r s few same e f h = go (passed c) refl h
         under : answer r .answer ≡ c .answer → answer r .answer ≤ 6
         under q = omega arith
 
+-- refusal 7 and what comes after it
+pub same-bad : (b : Bad) (x y : Vec) (o p : Answer × Vec) → length x ≡ length y → o ≡ p → unlessBad b x o ≡ unlessBad b y p
+same-bad (At i) x y o p l e = ap (λ (n : ℕ). (refused 7 i, zeros n)) l
+same-bad Nowhere x y o p l e = e
+
 -- ---- a higher limit: y is x, unless x is refused with 9
 
 module _ {S : Type 0} (answer : S → ℕ) where
@@ -114,6 +119,10 @@ pub record Good (n : ℕ) (x : Answer × Vec) : Type 0 where
 
 pub refuses : (n : ℕ) (x : Answer) (v : Vec) → (x .answer ≡ 0 → ⊥) → Good n (x, v)
 refuses n x v d = record { finite = λ e. absurd (d e); long = λ e. absurd (d e) }
+
+pub unless-good : (n : ℕ) (b : Bad) (x : Vec) (o : Answer × Vec) → Good n o → Good n (unlessBad b x o)
+unless-good n (At i) x o g = refuses n _ _ (λ z. omega arith)
+unless-good n Nowhere x o g = g
 
 pub check-good : (n : ℕ) (c : Answer) (x : Vec) (o : Answer × Vec) → Good n o → Good n (cond (passed c) o (c, x))
 check-good n c x o g = go (passed c) refl

@@ -1,7 +1,7 @@
 // What a call comes back with, and the checks that several calls share.
 ghost use mathlib.Core.Path.{_≡_};
 ghost use Prim.Native.Nat.{_≤_};
-ghost use Rattle.answers.specs.Answers.{emptied, limitGood, lengths, refusal7, least, present, decompositionLength};
+ghost use Rattle.answers.specs.Answers.{answered, done, refused, emptied, limitGood, lengths, refusal7, least, present, decompositionLength};
 use grid::fill;
 use leaves::Bad;
 
@@ -13,16 +13,37 @@ pub struct Answer {
     pub count: usize,
 }
 
+// The three numbers are made here and nowhere else.
+pub fn answered(answer: usize, place: usize, count: usize) -> Answer
+    ensures { λ r. ⌜ r ≡ answered answer place count ⌝ }
+{
+    Answer {
+        answer,
+        place,
+        count,
+    }
+}
+
+// Done, after so many passes or sweeps.
+pub fn done(count: usize) -> Answer
+    ensures { λ r. ⌜ r ≡ done count ⌝ }
+{
+    answered(0, 0, count)
+}
+
+// A refusal before the run.
+pub fn refused(answer: usize, place: usize) -> Answer
+    ensures { λ r. ⌜ r ≡ refused answer place ⌝ }
+{
+    answered(answer, place, 0)
+}
+
 // A refusal before or after a run, which fills x with +0.0.
 pub fn refuse(answer: usize, place: usize, x: &mut [f64]) -> Answer
     ensures { λ r. ⌜ (r, now (x .exit)) ≡ emptied answer place (now (x .entry)) ⌝ }
 {
     fill(x);
-    Answer {
-        answer,
-        place,
-        count: 0,
-    }
+    refused(answer, place)
 }
 
 // Refusal 7 with its place, or the pass.
@@ -30,16 +51,8 @@ pub fn refusal7(b: Bad) -> Answer
     ensures { λ r. ⌜ r ≡ refusal7 b ⌝ }
 {
     match b {
-        Bad::At(k) => Answer {
-            answer: 7,
-            place: k,
-            count: 0,
-        },
-        Bad::Nowhere => Answer {
-            answer: 0,
-            place: 0,
-            count: 0,
-        },
+        Bad::At(k) => refused(7, k),
+        Bad::Nowhere => done(0),
     }
 }
 
@@ -58,31 +71,15 @@ pub fn lengths(a: usize, want_a: usize, b: usize, want_b: usize, c: usize, want_
     ensures { λ r. ⌜ r ≡ lengths a «want_a» b «want_b» c «want_c» ⌝ }
 {
     if a != want_a {
-        return Answer {
-            answer: 6,
-            place: 0,
-            count: 0,
-        };
+        return refused(6, 0);
     }
     if b != want_b {
-        return Answer {
-            answer: 6,
-            place: 1,
-            count: 0,
-        };
+        return refused(6, 1);
     }
     if c != want_c {
-        return Answer {
-            answer: 6,
-            place: 2,
-            count: 0,
-        };
+        return refused(6, 2);
     }
-    Answer {
-        answer: 0,
-        place: 0,
-        count: 0,
-    }
+    done(0)
 }
 
 // r, the smaller of m and n.

@@ -13,7 +13,7 @@ use Rattle.answers.specs.declared.Answer.{Answer}
 use Rattle.jacobi.specs.Told.{bad, used}
 use Rattle.svd.specs.Svd.{svd}
 use Rattle.svd.specs.Row.{rowSpan, partOf}
-use Rattle.svd.specs.Document.{worked}
+use Rattle.svd.specs.Document.{plainWork}
 use Rattle.svd.specs.Exact.{Outcome, Promised, Taken, Done, Halted, Broken2, orderOf, uCell, vtCell, uFactor, vFactor}
 use Rattle.svd.specs.ExactLaws.{svd-done-exactly, svd-limit-exactly, svd-mark1-exactly, svd-mark2-exactly}
 use Rattle.svd.specs.Promise.{svd-descends}
@@ -44,15 +44,15 @@ module _ (m n u vt limit : ℕ) (matrix work result : Vec) (x : Outcome) (p : Pr
   pub svd-descends-calls : (i j : ℕ) → i < j → j < least m n → le (at (x .2) j) (at (x .2) i) ≡ true
   svd-descends-calls i j l h = subst (λ (o : Outcome). le (at (o .2) j) (at (o .2) i) ≡ true) (sym p) (svd-descends m n u vt limit matrix work result done0 i j l h)
 
-  pub svd-cells-u-calls : (u ≡ 0 → ⊥) → (i k : ℕ) → i < m → k < least m n → at (x .2) (uCell m n i k) ≡ uFactor m n (worked m n matrix) i (getD (orderOf m n (worked m n matrix)) k 0)
+  pub svd-cells-u-calls : (u ≡ 0 → ⊥) → (i k : ℕ) → i < m → k < least m n → at (x .2) (uCell m n i k) ≡ uFactor m n (plainWork m n matrix) i (getD (orderOf m n (plainWork m n matrix)) k 0)
   svd-cells-u-calls w i k h l = ap (λ (o : Outcome). at (o .2) (uCell m n i k)) p ∙ svd-cells-u m n u vt limit matrix work result done0 w i k h l
 
-  pub svd-cells-vt-calls : (vt ≡ 0 → ⊥) → (k j : ℕ) → k < least m n → j < n → at (x .2) (vtCell m n u k j) ≡ vFactor m n (worked m n matrix) j (getD (orderOf m n (worked m n matrix)) k 0)
+  pub svd-cells-vt-calls : (vt ≡ 0 → ⊥) → (k j : ℕ) → k < least m n → j < n → at (x .2) (vtCell m n u k j) ≡ vFactor m n (plainWork m n matrix) j (getD (orderOf m n (plainWork m n matrix)) k 0)
   svd-cells-vt-calls w k j h l = ap (λ (o : Outcome). at (o .2) (vtCell m n u k j)) p ∙ svd-cells-vt m n u vt limit matrix work result done0 w k j h l
 
   -- row k of V^T as `vt_row` gives it of what came back
   pub vt-row-cells-calls : (vt ≡ 0 → ⊥) → (k j : ℕ) → k < least m n → j < n
-      → at (partOf (x .2) (rowSpan (length (x .2)) m n u vt k)) j ≡ vFactor m n (worked m n matrix) j (getD (orderOf m n (worked m n matrix)) k 0)
+      → at (partOf (x .2) (rowSpan (length (x .2)) m n u vt k)) j ≡ vFactor m n (plainWork m n matrix) j (getD (orderOf m n (plainWork m n matrix)) k 0)
   vt-row-cells-calls w k j h l =
       ap (λ (o : Outcome). at (partOf (o .2) (rowSpan (length (o .2)) m n u vt k)) j) p ∙ vt-row-cells m n u vt limit matrix work result done0 w k j h l
 

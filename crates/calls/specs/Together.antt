@@ -8,18 +8,19 @@ use borrow.Author.Tests.{le-ltb, eq-eqb, ne-eqb}
 use lib.Ieee.{Float}
 use lib.ListN.{length}
 use Rattle.grid.specs.Real.{Vec}
-use Rattle.leaves.specs.Scan.{firstBad, isBad, firstBad-none, firstBad-fine}
+use Rattle.leaves.specs.Scan.{firstBad, isBad}
+use Rattle.leaves.specs.ScanLaws.{firstBad-none, firstBad-fine}
 use Rattle.leaves.specs.Finite.{Finite}
 use Rattle.leaves.specs.declared.Bad.{Bad}
 use Rattle.leaves.specs.declared.Bad.the-variants.{At, Nowhere}
-use Rattle.answers.specs.Answers.{done, refused, emptied, lengths, least, present, decompositionLength}
+use Rattle.answers.specs.Answers.{done, refused, emptied, lengths, unlessBad, behind, least, present, decompositionLength}
 use Rattle.answers.specs.OutcomeLaws.{present-is}
 use Rattle.answers.specs.declared.Answer.{Answer}
 use Rattle.svd.specs.Exact.{Outcome, Promised, Taken}
 use Rattle.svd.specs.ExactLaws.{taken-of}
 use Rattle.svd.specs.Out.{svd-long, svd-finite-out}
 use Rattle.svd.specs.Svd.{svd}
-use Rattle.solve.specs.Solve.{solveChecks, inverseChecks, unlessBad, marked, solution, inverted, solve, pseudoInverse}
+use Rattle.solve.specs.Solve.{solveChecks, inverseChecks, marked, solution, inverted, solve, pseudoInverse}
 
 -- done, or a number of the answer is not finite: a value is too small to divide by
 abbrev pub Ends : Answer → Type 0
@@ -77,7 +78,7 @@ module _ (m n u vt hasU hasVt limit : ℕ) (matrix work result : Vec) (x : Outco
   ]
     where
       rest : Bad → Answer × Vec
-      rest bad = unlessBad bad (length (x .2)) answer (marked (solution m n tol (x .2) b))
+      rest bad = unlessBad (behind (length (x .2)) bad) answer (marked (solution m n tol (x .2) b))
 
       is : length b ≡ m → solve m n hasU hasVt tol (x .2) b answer ≡ rest (firstBad b)
       is e = simp (le-ltb 256 m (taken .tall), le-ltb 256 n (taken .wide), ne-eqb hasU 0 flagU, ne-eqb hasVt 0 flagVt, eq-eqb (length b) m e, eq-eqb (length (x .2)) (decompositionLength m n hasU hasVt) long, eq-eqb (length answer) n l, clean)

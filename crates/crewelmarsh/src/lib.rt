@@ -1,14 +1,17 @@
-// The five entries that a C codec calls. Each hands on to the function of its name and keeps its promise. A slice is a pointer and
-// a length in C; what comes back is the header's struct crewelmarsh_answer.
+// The entries that a C codec calls. Each hands on to the function of its name and keeps its promise. A slice is a pointer and
+// a length in C; what comes back is the header's struct crewelmarsh_answer, or crewelmarsh_extent. The number at a name's end is the
+// header's major version, so that a program built with a header of another one doesn't link.
 ghost use mathlib.Core.Path.{_≡_};
 ghost use Rattle.eigen.specs.Eigen.{eigen};
 ghost use Rattle.svd.specs.Svd.{svd};
+ghost use Rattle.svd.specs.Row.{rowSpan, extentOf};
 ghost use Rattle.solve.specs.Solve.{solve, pseudoInverse};
 ghost use Rattle.qr.specs.Qr.{qrQ};
 use answers::Answer;
+use svd::Extent;
 
 #[no_mangle]
-pub extern "C" fn crewelmarsh_symmetric_eigen(
+pub extern "C" fn crewelmarsh_symmetric_eigen_abi1(
     n: usize,
     limit: usize,
     matrix: &[f64],
@@ -21,7 +24,7 @@ pub extern "C" fn crewelmarsh_symmetric_eigen(
 }
 
 #[no_mangle]
-pub extern "C" fn crewelmarsh_svd(
+pub extern "C" fn crewelmarsh_svd_abi1(
     m: usize,
     n: usize,
     want_u: usize,
@@ -37,7 +40,21 @@ pub extern "C" fn crewelmarsh_svd(
 }
 
 #[no_mangle]
-pub extern "C" fn crewelmarsh_solve(
+pub extern "C" fn crewelmarsh_vt_row_extent_abi1(
+    m: usize,
+    n: usize,
+    has_u: usize,
+    has_vt: usize,
+    result_len: usize,
+    j: usize,
+) -> Extent
+    ensures { λ r. ⌜ r ≡ extentOf (rowSpan «result_len» m n «has_u» «has_vt» j) ⌝ }
+{
+    svd::vt_row_extent(m, n, has_u, has_vt, result_len, j)
+}
+
+#[no_mangle]
+pub extern "C" fn crewelmarsh_solve_abi1(
     m: usize,
     n: usize,
     has_u: usize,
@@ -62,7 +79,7 @@ pub extern "C" fn crewelmarsh_solve(
 }
 
 #[no_mangle]
-pub extern "C" fn crewelmarsh_pseudo_inverse(
+pub extern "C" fn crewelmarsh_pseudo_inverse_abi1(
     m: usize,
     n: usize,
     has_u: usize,
@@ -77,7 +94,12 @@ pub extern "C" fn crewelmarsh_pseudo_inverse(
 }
 
 #[no_mangle]
-pub extern "C" fn crewelmarsh_qr_q(m: usize, k: usize, matrix: &[f64], answer: &mut [f64]) -> Answer
+pub extern "C" fn crewelmarsh_qr_q_abi1(
+    m: usize,
+    k: usize,
+    matrix: &[f64],
+    answer: &mut [f64],
+) -> Answer
     ensures { λ r. ⌜ (r, now (answer .exit)) ≡ qrQ m k (now (matrix .entry)) (now (answer .entry)) ⌝ }
 {
     qr::qr_q(m, k, matrix, answer)

@@ -10,8 +10,10 @@ use borrow.Author.Tests.{eqb-false}
 use lib.Dec.{ltb, eqb}
 use lib.ListN.{length, length-replicate}
 use Rattle.grid.specs.Real.{Vec, zero64, zeros}
-use Rattle.grid.specs.Cell.{Sized, at2, entry}
-use Rattle.leaves.specs.Scan.{firstBadLower, lower-same}
+use Rattle.grid.specs.Cell.{at2, entry}
+use Rattle.grid.specs.CellLaws.{Sized}
+use Rattle.leaves.specs.Scan.{firstBadLower}
+use Rattle.leaves.specs.ScanLaws.{lower-same}
 use Rattle.answers.specs.Answers.{done, passed, limitGood, lengths, refusal7}
 use Rattle.answers.specs.OutcomeLaws.{right-limit, Settled, always, by-test}
 use Rattle.answers.specs.declared.Answer.{Answer}
@@ -20,7 +22,8 @@ use Rattle.tred.specs.Lower.{lower}
 use Rattle.ql.specs.Limit.{tql2-limit}
 use Rattle.eigen.specs.Eigen.{columns, mark0, marked, decomposed, cleared, given, entered, eigen}
 use Rattle.eigen.specs.Copies.{columns-cell, columns-long}
-use Rattle.eigen.specs.Document.{SymmetricEigen, symmetric-eigen-once}
+use Rattle.eigen.specs.Document.{SymmetricEigen}
+use Rattle.eigen.specs.DocumentLaws.{symmetric-eigen-once}
 use Rattle.eigen.specs.Exact.{Outcome, Promised, Fit}
 use Rattle.eigen.specs.ExactLaws.{enters, given-answer, done-document}
 use Rattle.eigen.specs.Result.{gave}

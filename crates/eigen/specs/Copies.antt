@@ -6,9 +6,10 @@ use native.Mathlib.Omega.{arith}
 use lib.Ieee.{nan}
 use lib.ListN.{length, length-set}
 use lib.Seq.{getD-set-other}
-use Rattle.grid.specs.Loop.{upto-both}
+use Rattle.grid.specs.LoopLaws.{upto-both}
 use Rattle.grid.specs.Real.{Vec, at}
-use Rattle.grid.specs.Cell.{at2, entry, one-place, put-here}
+use Rattle.grid.specs.Cell.{at2, entry}
+use Rattle.grid.specs.CellLaws.{one-place, put-here}
 use Rattle.eigen.specs.Eigen.{copyStep, copyRow, columns}
 
 -- the cells that are past once rows 0 .. i - 1 are, and of row i the first j

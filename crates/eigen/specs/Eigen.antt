@@ -1,4 +1,4 @@
--- What a call of `symmetric_eigen` gives, for every input: (answer, work afterwards, result afterwards), in the order of 01's table.
+-- What a call of `symmetric_eigen` gives, for every input: (answer, work afterwards, result afterwards), in the order of 01's table. Definitions only.
 use mathlib.Core.Bool.{Bool, cond, not, _||_}
 use mathlib.Core.List.{_++_}
 use Prim.Native.Nat.{ℕ, _+_, _*_}
@@ -39,7 +39,7 @@ mirrorRow n i v = upto (mirrorStep n i) 0 i v
 unfoldable pub rows : ℕ → Vec → Vec
 rows n v = upto (mirrorRow n) 0 n v
 
--- ---- the run: of (v, d, e) as they are lent, to (answer, v, d, e)
+-- ---- the run: v, d and e as they are lent, and afterwards the answer, v, d and e
 
 -- mark 0: a number of d, of e or of v is not finite
 unfoldable pub mark0 : ℕ → Vec → Vec → Vec → Bool
@@ -47,10 +47,10 @@ mark0 n v d e = mark1 d e || isBad (firstBadCell n v)
 
 -- after tred2: mark 0, or tql2
 unfoldable pub marked : ℕ → ℕ → Vec × Vec × Vec → Answer × Vec × Vec × Vec
-marked n limit x = cond (mark0 n (x .0) (x .1) (x .2)) (answered 8 0 0, x .0, x .1, x .2) (tql2 n limit x)
+marked n limit (v, d, e) = cond (mark0 n v d e) (answered 8 0 0, v, d, e) (tql2 n limit (v, d, e))
 
 unfoldable pub decomposed : ℕ → ℕ → Vec → Vec × Vec × Vec → Answer × Vec × Vec × Vec
-decomposed n limit a x = marked n limit (tred2 n (columns n a (x .0), x .1, x .2))
+decomposed n limit a (v, d, e) = marked n limit (tred2 n (columns n a v, d, e))
 
 -- ---- what is lent afterwards
 
@@ -60,7 +60,7 @@ cleared n x = (x, zeros n, zeros (n + n * n))
 
 -- on 0 the values come first in the result, and the vectors row by row behind them
 unfoldable pub given : ℕ → Answer × Vec × Vec × Vec → Answer × Vec × Vec
-given n x = cond (passed (x .0)) (x .0, zeros n, x .2 ++ rows n (x .1)) (cleared n (x .0))
+given n (x, v, d, e) = cond (passed x) (x, zeros n, d ++ rows n v) (cleared n x)
 
 -- ---- the call
 

@@ -26,7 +26,7 @@ use Rattle.ql.specs.Marks.{told}
 use Rattle.eigen.specs.Eigen.{mark0, marked, decomposed, cleared, given, entered, eigen, rows}
 use Rattle.eigen.specs.Exact.{Outcome, Fit, Taken, reduced, Reduced, Reached, Done, empty, worked, Halted, Broken0, Broken2, Says, nothing, at-mark0, runs, finishedWith, Some}
 use Rattle.eigen.specs.Document as Doc
-use Rattle.eigen.specs.Document.{same-vectors}
+use Rattle.eigen.specs.DocumentLaws.{same-vectors}
 use Rattle.eigen.specs.Copies.{columns-long}
 use Rattle.eigen.specs.Mirror.{rows-long, rows-entry}
 
@@ -279,7 +279,7 @@ module _ (n limit : ℕ) (a work result : Vec) (f : Taken n limit a work result)
 
 pub done-document : (n limit : ℕ) (a : Vec) (c : ℕ) (values vectors : Vec) → Done n limit a c values vectors → Doc.SymmetricEigen n a values vectors
 done-document n limit a c values vectors (empty z k p q) = Doc.empty z p q
-done-document n limit a c values vectors (worked w) = Doc.worked (record {
+done-document n limit a c values vectors (worked w) = Doc.computed (record {
   some = w .some;
   last = (sorted n (w .last .v, w .last .d) .0, sorted n (w .last .v, w .last .d) .1, w .last .e);
   ran = record { last = w .last; ran = ran-document n limit (w .ran); values = refl };

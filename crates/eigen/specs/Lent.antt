@@ -1,4 +1,5 @@
--- What is lent to the run in parts, and what is put together from them afterwards.
+-- What is lent to the run in parts, and what is put together from them afterwards. Laws only.
+-- `outward` and `laid` are what two functions of the code do on the way; no public promise cites them.
 use mathlib.Core.Path.{_≡_, refl, sym, ap, _∙_}
 use mathlib.Core.Bool.{Bool, true, false, cond}
 use mathlib.Core.List.{List, [], _++_, append-nil}
@@ -14,7 +15,7 @@ use Rattle.eigen.specs.Eigen.{rows, decomposed, given, cleared}
 
 -- after the run: where it is done the vectors stand row by row
 unfoldable pub outward : ℕ → Answer × Vec × Vec × Vec → Answer × Vec × Vec × Vec
-outward n x = cond (passed (x .0)) (x .0, rows n (x .1), x .2, x .3) x
+outward n (x, v, d, e) = cond (passed x) (x, rows n v, d, e) (x, v, d, e)
 
 -- work and result, whose back holds the vectors, after a run with the values d
 unfoldable pub laid : Answer → Vec → Vec → Vec → Answer × Vec × Vec

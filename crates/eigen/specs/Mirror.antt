@@ -1,13 +1,15 @@
--- `rows` turns a square matrix from column by column to row by row: entry (i, j) of what it gives is cell (i, j) of what it was given (`rows-entry`). Assumes nothing.
+-- `rows` turns a square matrix from column by column to row by row. Laws only.
+-- Entry (i, j) of what it gives is cell (i, j) of what it was given (`rows-entry`). Assumes nothing.
 use mathlib.Core.Path.{_≡_, refl, sym, _∙_, subst}
 use Prim.Native.Nat.{ℕ, _+_, _*_, _<_}
 use native.Mathlib.Decide.{ℕ-discrete, decLt}
 use native.Mathlib.Omega.{arith}
 use lib.Ieee.{Float}
 use lib.ListN.{length, length-set}
-use Rattle.grid.specs.Loop.{upto-both}
+use Rattle.grid.specs.LoopLaws.{upto-both}
 use Rattle.grid.specs.Real.{Vec}
-use Rattle.grid.specs.Cell.{at2, put2, entry, put-here, put-elsewhere}
+use Rattle.grid.specs.Cell.{at2, put2, entry}
+use Rattle.grid.specs.CellLaws.{put-here, put-elsewhere}
 use Rattle.eigen.specs.Eigen.{mirrorStep, mirrorRow, rows}
 use Rattle.eigen.specs.Copies.{Past, above, beside}
 

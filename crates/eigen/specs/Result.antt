@@ -12,7 +12,8 @@ use lib.Ieee.{nan, lt, le}
 use lib.ListN.{length, List·getD-append}
 use lib.Seq.{getD-append-add}
 use Rattle.grid.specs.Real.{Vec, at}
-use Rattle.grid.specs.Cell.{at2, entry, cell}
+use Rattle.grid.specs.Cell.{at2, entry}
+use Rattle.grid.specs.CellLaws.{cell}
 use Rattle.leaves.specs.Leaf.{isFinite}
 use Rattle.leaves.specs.Compare.{le-of-not}
 use Rattle.leaves.specs.Scan.{firstBadLower}

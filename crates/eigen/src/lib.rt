@@ -4,13 +4,16 @@ ghost use mathlib.Core.List.{_++_};
 ghost use Prim.Native.Nat.{_+_, _*_, _<_, _≤_};
 ghost use lib.ListN.{length, drop};
 ghost use Rattle.grid.specs.Real.{zeros};
-ghost use Rattle.grid.specs.Cell.{Sized};
+ghost use Rattle.grid.specs.CellLaws.{Sized};
 ghost use Rattle.eigen.specs.Eigen.{copyRow, columns, mirrorRow, rows, mark0, marked, decomposed, given, entered, eigen};
 ghost use Rattle.eigen.specs.Lent.{outward, laid};
 use answers::Answer;
+use answers::done;
 use answers::lengths;
 use answers::limit_good;
 use answers::refusal7;
+use answers::refused;
+use grid::LARGEST;
 use grid::at;
 use grid::at1;
 use grid::entry;
@@ -25,7 +28,7 @@ use ql::tql2;
 use tred::tred2;
 
 // Row i of the matrix a into row i of v.
-pub fn copy_row(n: usize, i: usize, a: &[f64], v: &mut [f64])
+fn copy_row(n: usize, i: usize, a: &[f64], v: &mut [f64])
     requires { ⌜ (i < n) × (length (now a) ≡ n * n) × (length (now v) ≡ n * n) ⌝ }
     ensures { λ _. ⌜ now (v .exit) ≡ copyRow n (now (a .entry)) i (now (v .entry)) ⌝ }
 {
@@ -35,7 +38,7 @@ pub fn copy_row(n: usize, i: usize, a: &[f64], v: &mut [f64])
 }
 
 // The whole matrix, which stands row by row, into v, which stands column by column.
-pub fn columns(n: usize, a: &[f64], v: &mut [f64])
+fn columns(n: usize, a: &[f64], v: &mut [f64])
     requires { ⌜ (length (now a) ≡ n * n) × (length (now v) ≡ n * n) ⌝ }
     ensures { λ _. ⌜ now (v .exit) ≡ columns n (now (a .entry)) (now (v .entry)) ⌝ }
 {
@@ -45,7 +48,7 @@ pub fn columns(n: usize, a: &[f64], v: &mut [f64])
 }
 
 // The cells of row i left of the diagonal change places with their mirrors.
-pub fn mirror_row(n: usize, i: usize, v: &mut [f64])
+fn mirror_row(n: usize, i: usize, v: &mut [f64])
     requires { ⌜ (i < n) × (length (now v) ≡ n * n) ⌝ }
     ensures { λ _. ⌜ now (v .exit) ≡ mirrorRow n i (now (v .entry)) ⌝ }
 {
@@ -58,7 +61,7 @@ pub fn mirror_row(n: usize, i: usize, v: &mut [f64])
 }
 
 // v, which stands column by column, comes to stand row by row.
-pub fn rows(n: usize, v: &mut [f64])
+fn rows(n: usize, v: &mut [f64])
     requires { ⌜ length (now v) ≡ n * n ⌝ }
     ensures { λ _. ⌜ now (v .exit) ≡ rows n (now (v .entry)) ⌝ }
 {
@@ -68,7 +71,7 @@ pub fn rows(n: usize, v: &mut [f64])
 }
 
 // Mark 0.
-pub fn mark0(n: usize, v: &[f64], d: &[f64], e: &[f64]) -> bool
+fn mark0(n: usize, v: &[f64], d: &[f64], e: &[f64]) -> bool
     ensures { λ r. ⌜ r ≡ mark0 n (now (v .entry)) (now (d .entry)) (now (e .entry)) ⌝ }
 {
     if mark1(d, e) {
@@ -78,22 +81,18 @@ pub fn mark0(n: usize, v: &[f64], d: &[f64], e: &[f64]) -> bool
 }
 
 // The run after `tred2`.
-pub fn marked(n: usize, limit: usize, v: &mut [f64], d: &mut [f64], e: &mut [f64]) -> Answer
+fn marked(n: usize, limit: usize, v: &mut [f64], d: &mut [f64], e: &mut [f64]) -> Answer
     requires { ⌜ (0 < n) × (n ≤ 256) × (limit ≤ 60) × Sized n (now v) (now d) (now e) ⌝ }
     ensures { λ r. ⌜ (r, now (v .exit), now (d .exit), now (e .exit)) ≡ marked n limit (now (v .entry), now (d .entry), now (e .entry)) ⌝ }
 {
     if mark0(n, v, d, e) {
-        return Answer {
-            answer: 8,
-            place: 0,
-            count: 0,
-        };
+        return refused(8, 0);
     }
     tql2(n, limit, v, d, e)
 }
 
 // The run.
-pub fn decompose(
+fn decompose(
     n: usize,
     limit: usize,
     a: &[f64],
@@ -110,7 +109,7 @@ pub fn decompose(
 }
 
 // The run, with the vectors row by row where it is done.
-pub fn solve(
+fn decompose_rows(
     n: usize,
     limit: usize,
     a: &[f64],
@@ -130,7 +129,7 @@ pub fn solve(
 }
 
 // The first numbers of result become those of d.
-pub fn put_first(d: &[f64], result: &mut [f64])
+fn put_first(d: &[f64], result: &mut [f64])
     requires { ⌜ length (now d) ≤ length (now result) ⌝ }
     ensures { λ _. ⌜ now (result .exit) ≡ now (d .entry) ++ drop (length (now (d .entry))) (now (result .entry)) ⌝ }
 {
@@ -140,7 +139,7 @@ pub fn put_first(d: &[f64], result: &mut [f64])
 }
 
 // What is lent, after a run with the values d.
-pub fn give(r: Answer, d: &[f64], work: &mut [f64], result: &mut [f64]) -> Answer
+fn give(r: Answer, d: &[f64], work: &mut [f64], result: &mut [f64]) -> Answer
     requires { ⌜ length (now d) ≤ length (now result) ⌝ }
     ensures { λ q. ⌜ (q, now (work .exit), now (result .exit)) ≡ laid r (now (d .entry)) (now (work .entry)) (now (result .entry)) ⌝ }
 {
@@ -154,17 +153,17 @@ pub fn give(r: Answer, d: &[f64], work: &mut [f64], result: &mut [f64]) -> Answe
 }
 
 // The run with d in a local array, e in work and v in the part of the result behind the values.
-pub fn run(n: usize, limit: usize, a: &[f64], work: &mut [f64], result: &mut [f64]) -> Answer
+fn run(n: usize, limit: usize, a: &[f64], work: &mut [f64], result: &mut [f64]) -> Answer
     requires { ⌜ (0 < n) × (n ≤ 256) × (limit ≤ 60) × (length (now a) ≡ n * n) × (now work ≡ zeros n) × (now result ≡ zeros (n + n * n)) ⌝ }
     ensures { λ r. ⌜ (r, now (work .exit), now (result .exit)) ≡ given n (decomposed n limit (now (a .entry)) (zeros (n * n), zeros n, zeros n)) ⌝ }
 {
-    let mut d = [0.0f64; 256];
-    let r = solve(n, limit, a, &mut result[n..], &mut d[..n], work);
+    let mut d = [0.0f64; LARGEST];
+    let r = decompose_rows(n, limit, a, &mut result[n..], &mut d[..n], work);
     give(r, &d[..n], work, result)
 }
 
 // The call after its checks of sizes, limit and lengths.
-pub fn enter(n: usize, limit: usize, matrix: &[f64], work: &mut [f64], result: &mut [f64]) -> Answer
+fn enter(n: usize, limit: usize, matrix: &[f64], work: &mut [f64], result: &mut [f64]) -> Answer
     requires { ⌜ (n ≤ 256) × (limit ≤ 60) × (length (now matrix) ≡ n * n) × (length (now work) ≡ n) × (length (now result) ≡ n + n * n) ⌝ }
     ensures { λ r. ⌜ (r, now (work .exit), now (result .exit)) ≡ entered n limit (now (matrix .entry)) ⌝ }
 {
@@ -175,11 +174,7 @@ pub fn enter(n: usize, limit: usize, matrix: &[f64], work: &mut [f64], result: &
         return x;
     }
     if n == 0 {
-        return Answer {
-            answer: 0,
-            place: 0,
-            count: 0,
-        };
+        return done(0);
     }
     run(n, limit, matrix, work, result)
 }
@@ -193,19 +188,11 @@ pub fn symmetric_eigen(
 ) -> Answer
     ensures { λ r. ⌜ (r, now (work .exit), now (result .exit)) ≡ eigen n limit (now (matrix .entry)) (now (work .entry)) (now (result .entry)) ⌝ }
 {
-    if n > 256 {
-        return Answer {
-            answer: 1,
-            place: 0,
-            count: 0,
-        };
+    if n > LARGEST {
+        return refused(1, 0);
     }
     if !limit_good(limit) {
-        return Answer {
-            answer: 2,
-            place: 0,
-            count: 0,
-        };
+        return refused(2, 0);
     }
     let x = lengths(matrix.len(), n * n, work.len(), n, result.len(), n + n * n);
     if x.answer != 0 {

@@ -1,2 +1,3 @@
--- The answer to a text.
+-- Reply: the definition of the answer to a text. ReplyLaws: its laws.
 pub mod Reply
+pub mod ReplyLaws

@@ -1,4 +1,4 @@
--- f64 and its operations by short names: each rounds once.
+-- f64 and its operations by short names: each rounds once. Definitions only.
 use lib.Ieee as Ieee
 use lib.Ieee.{Float, binary64, nan}
 use mathlib.Core.List.{List}

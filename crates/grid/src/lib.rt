@@ -5,6 +5,12 @@ ghost use lib.ListN.{length, set};
 ghost use Rattle.grid.specs.Real.{at, zeros};
 ghost use Rattle.grid.specs.Cell.{at2, put2, entry, putEntry};
 
+// No dimension is above this.
+pub const LARGEST: usize = 256;
+
+// 2^-52, the Rust's f64::EPSILON.
+pub const EPSILON: f64 = 1.0 / 4503599627370496.0;
+
 // Element j of the vector d.
 pub fn at1(d: &[f64], j: usize) -> f64
     requires { ⌜ j < length (now d) ⌝ }

@@ -1,11 +1,11 @@
--- Document 000's own sweeps and values, with no mark and no limit but its 60 sweeps. Definitions only.
+-- Document 000's own run: no mark, and no limit but its 60 sweeps. Definitions only.
 use mathlib.Core.Bool.{Bool, true, not}
 use Prim.Native.Nat.{ℕ}
 use Rattle.grid.specs.Loop.{rounds}
 use Rattle.grid.specs.Real.{Vec}
 use Rattle.jacobi.specs.Jacobi.{sweep, normalised}
 
--- document 000's sweeps: `for _sweep in 0..60 { let mut changed = false; ..; if !changed { break; } }`, with no mark and no other limit
+-- document 000's sweeps: `for _sweep in 0..60 { let mut changed = false; ..; if !changed { break; } }`
 abbrev pub plainSweep : ℕ → ℕ → Bool × Vec → Bool × Vec
 plainSweep rows cols x = sweep rows cols (x .1)
 

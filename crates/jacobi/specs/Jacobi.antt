@@ -1,11 +1,11 @@
--- `jacobi_svd_tall` of document 000, operation for operation. The work array w holds the factor u, rows by cols, then the factor v, cols by cols, both column by
--- column, then one value for each column. A column is known by the index in w at which it begins.
+-- `jacobi_svd_tall` of document 000, operation for operation. Definitions only.
+-- The work array w holds the factor u, rows by cols, then the factor v, cols by cols, both column by column, then one value for each column. A column is known by
+-- the index in w at which it begins.
 use mathlib.Core.Bool.{Bool, true, false, cond, not, _||_}
-use Prim.Native.Nat.{ℕ, _+_, _*_, _≤_}
-use mathlib.Core.Path.{_≡_}
+use Prim.Native.Nat.{ℕ, _+_, _*_}
 use lib.Dec.{eqb}
 use lib.Ieee.{Float, neg, lt, le, eq}
-use lib.ListN.{length, take, drop, set}
+use lib.ListN.{take, drop, set}
 use Rattle.grid.specs.Loop.{upto, rounds}
 use Rattle.grid.specs.Real.{Vec, at, zero64, one64, two64, epsilon, _⊕_, _⊖_, _⊗_, _⊘_}
 use Rattle.leaves.specs.Root.{root}
@@ -27,12 +27,6 @@ vAt rows cols p = rows * cols + p * cols
 
 abbrev pub valueAt : ℕ → ℕ → ℕ → ℕ
 valueAt rows cols j = rows * cols + cols * cols + j
-
--- what every function on w asks
-pub record Sized (rows cols : ℕ) (w : Vec) : Type 0 where
-  pub tall : rows ≤ 256
-  pub wide : cols ≤ 256
-  pub whole : length w ≡ rows * cols + cols * cols + cols
 
 -- ---- one pair of columns
 
@@ -97,21 +91,26 @@ unfoldable pub factorsBad : ℕ → ℕ → Vec → Bad
 factorsBad rows cols w =
     orElse (firstBadCell cols (take (rows * cols) w)) (firstBadCell cols (take (cols * cols) (drop (rows * cols) w)))
 
+-- the run goes on after so many sweeps; where the limit leaves no other, this is refusal 9
+abbrev pub going : ℕ → Answer
+going count = answered 9 count count
+
 -- after sweep number count: mark 1, then settled if no pair turned, then the limit, if no sweep follows
 unfoldable pub verdict : Bad → Bool → ℕ → Answer
-verdict b changed count = cond (isBad b) (answered 8 1 count) (cond changed (answered 9 count count) (done count))
+verdict b changed count = cond (isBad b) (answered 8 1 count) (cond changed (going count) (done count))
 
 unfoldable pub swept : ℕ → ℕ → Answer × Vec → Answer × Vec
 swept rows cols x =
     let y = sweep rows cols (x .1) in
     (verdict (factorsBad rows cols (y .1)) (y .0) (x .0 .count + 1), y .1)
 
+-- not `going`
 abbrev pub ended : Answer × Vec → Bool
 ended x = not (eqb (x .0 .answer) 9)
 
 -- sweeps until one ends the run, at most limit
 unfoldable pub sweeps : ℕ → ℕ → ℕ → Vec → Answer × Vec
-sweeps rows cols limit w = rounds (swept rows cols) ended limit (answered 9 0 0, w)
+sweeps rows cols limit w = rounds (swept rows cols) ended limit (going 0, w)
 
 -- ---- the values
 

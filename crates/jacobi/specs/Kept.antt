@@ -1,15 +1,22 @@
--- The run keeps the length of the work array. Laws only.
+-- The run keeps the length of the work array, which its functions ask for. Laws only.
 use mathlib.Core.Path.{_≡_}
 use mathlib.Core.Bool.{Bool, true, false, cond}
-use Prim.Native.Nat.{ℕ, zero, suc, _+_}
+use Prim.Native.Nat.{ℕ, zero, suc, _+_, _*_, _≤_}
 use lib.Ieee.{Float, lt}
 use lib.ListN.{length, set, length-set}
-use Rattle.grid.specs.Loop.{upto, upto-keeps, rounds}
+use Rattle.grid.specs.Loop.{upto, rounds}
+use Rattle.grid.specs.LoopLaws.{upto-keeps}
 use Rattle.grid.specs.Real.{Vec, zero64}
 use Rattle.leaves.specs.Root.{root}
 use Rattle.answers.specs.declared.Answer.{Answer}
 use Rattle.jacobi.specs.declared.Rotation.{Rotation}
 use Rattle.jacobi.specs.Jacobi.{uAt, vAt, valueAt, gram, skipped, rotationOf, turnStep, turned, pairDone, pairsOf, sweep, swept, ended, normSq, divideStep, divided, normalStep, normalised}
+
+-- what every function on w asks
+pub record Sized (rows cols : ℕ) (w : Vec) : Type 0 where
+  pub tall : rows ≤ 256
+  pub wide : cols ≤ 256
+  pub whole : length w ≡ rows * cols + cols * cols + cols
 
 module _ (n : ℕ) where
   keeps : (f : ℕ → Vec → Vec) (a b : ℕ) (w : Vec) → ((i : ℕ) (x : Vec) → length x ≡ n → length (f i x) ≡ n) → length w ≡ n → length (upto f a b w) ≡ n

@@ -4,8 +4,12 @@
 ghost use mathlib.Core.Path.{_≡_};
 ghost use Prim.Native.Nat.{_+_, _*_, _≤_, _<_};
 ghost use lib.ListN.{length};
-ghost use Rattle.jacobi.specs.Jacobi.{Sized, gram, skipped, signOf, rotationOf, turned, pairDone, pairsOf, sweep, factorsBad, verdict, swept, sweeps, normSq, divided, normalStep, normalised, allBad, finished, jacobi};
+ghost use Rattle.jacobi.specs.Kept.{Sized};
+ghost use Rattle.jacobi.specs.Jacobi.{gram, skipped, signOf, rotationOf, turned, pairDone, pairsOf, sweep, factorsBad, going, verdict, swept, sweeps, normSq, divided, normalStep, normalised, allBad, finished, jacobi};
 use answers::Answer;
+use answers::answered;
+use answers::done;
+use grid::EPSILON;
 use grid::at1;
 use grid::put1;
 use leaves::Bad;
@@ -14,8 +18,6 @@ use leaves::first_bad_cell;
 use leaves::is_bad;
 use leaves::magnitude;
 use leaves::root;
-
-const EPSILON: f64 = 1.0 / 4503599627370496.0;
 
 // The sub-Gram of a pair of columns: alpha and beta are their squared norms, gamma their product.
 pub struct Sums {
@@ -143,29 +145,24 @@ fn factors_bad(rows: usize, cols: usize, w: &[f64]) -> Bad
     first_bad_cell(cols, &w[v..v + cols * cols])
 }
 
-// What a sweep ends with: 9 stands until the next sweep, if the limit leaves one.
+// The run goes on after so many sweeps; where the limit leaves no other, this is refusal 9.
+fn going(count: usize) -> Answer
+    ensures { λ r. ⌜ r ≡ going count ⌝ }
+{
+    answered(9, count, count)
+}
+
+// What a sweep ends with.
 fn verdict(b: Bad, changed: bool, count: usize) -> Answer
     ensures { λ r. ⌜ r ≡ verdict b changed count ⌝ }
 {
     if is_bad(b) {
-        return Answer {
-            answer: 8,
-            place: 1,
-            count,
-        };
+        return answered(8, 1, count);
     }
     if changed {
-        return Answer {
-            answer: 9,
-            place: count,
-            count,
-        };
+        return going(count);
     }
-    Answer {
-        answer: 0,
-        place: 0,
-        count,
-    }
+    done(count)
 }
 
 // One sweep more.
@@ -183,11 +180,7 @@ fn sweeps(rows: usize, cols: usize, limit: usize, w: &mut [f64]) -> Answer
     requires { ⌜ (limit ≤ 60) × Sized rows cols (now w) ⌝ }
     ensures { λ r. ⌜ (r, now (w .exit)) ≡ sweeps rows cols limit (now (w .entry)) ⌝ }
 {
-    let mut run = Answer {
-        answer: 9,
-        place: 0,
-        count: 0,
-    };
+    let mut run = going(0);
     let mut left = limit;
     while left > 0 {
         run = swept(rows, cols, run, w);
@@ -261,11 +254,7 @@ fn finish(rows: usize, cols: usize, run: Answer, w: &mut [f64]) -> Answer
 {
     normalise(rows, cols, w);
     if is_bad(all_bad(rows, cols, w)) {
-        return Answer {
-            answer: 8,
-            place: 2,
-            count: run.count,
-        };
+        return answered(8, 2, run.count);
     }
     run
 }

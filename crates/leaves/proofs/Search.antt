@@ -6,10 +6,12 @@ use native.Mathlib.Nat.{mod-lt, mod-zero, div-zero, zero-mod, zero-div, mod-le, 
 use native.Mathlib.Omega.{arith}
 use lib.Dec.{eqb}
 use borrow.Author.Tests.{lt-ltb, le-ltb, eqb-true, eqb-false, ne-eqb}
-use Rattle.grid.specs.Loop.{first, first-here, first-none}
+use Rattle.grid.specs.Loop.{first}
+use Rattle.grid.specs.LoopLaws.{first-here, first-none}
 use Rattle.grid.specs.Real.{Vec}
-use Rattle.grid.specs.Cell.{cell}
-use Rattle.leaves.specs.Scan.{found, placeOf, after, cellBad, firstBadOf}
+use Rattle.grid.specs.CellLaws.{cell}
+use Rattle.leaves.specs.Scan.{found, placeOf, cellBad, firstBadOf}
+use Rattle.leaves.specs.ScanLaws.{after}
 use Rattle.leaves.specs.declared.Bad.the-variants.{At, Nowhere}
 use Rattle.leaves.specs.declared.Place.{Place}
 

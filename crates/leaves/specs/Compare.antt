@@ -1,5 +1,5 @@
--- The comparison of finite numbers is that of a line: of two one at most is below the other, and "not below" goes on from one to the next. Signs are free, and -0
--- stands with +0. Laws only.
+-- The comparison of finite numbers is that of a line. Laws only.
+-- Of two one at most is below the other, and "not below" goes on from one to the next. Signs are free, and -0 stands with +0.
 use mathlib.Core.Path.{_≡_, refl, sym, ap, _∙_}
 use mathlib.Core.Bool.{Bool, true, false, _||_, _&&_, true≢false}
 use Prim.Native.Nat.{ℕ, suc, _+_, _*_, _<_}

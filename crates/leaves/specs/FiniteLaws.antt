@@ -11,19 +11,16 @@ use borrow.Author.Tests.{le-leb, leb-true, not-false}
 use lib.ListN.{length}
 use Rattle.grid.specs.Loop.{first}
 use Rattle.grid.specs.Real.{Vec, at}
-use Rattle.grid.specs.Cell.{at2, entry, cell, place-row, place-column}
+use Rattle.grid.specs.Cell.{at2, entry}
+use Rattle.grid.specs.CellLaws.{cell, place-row, place-column}
 use Rattle.leaves.specs.Leaf.{isFinite}
 use Rattle.leaves.specs.Finite.{Finite, NotFinite}
-use Rattle.leaves.specs.Scan.{firstBad, firstBadOf, firstBadCell, firstBadLower, lowerBad, badLower, isBad, firstBad-none, firstBad-fine, placeOf, cellBad, found, nowhere, never}
-use Rattle.leaves.specs.declared.Bad.{Bad}
-use Rattle.leaves.specs.declared.Bad.the-variants.{At, Nowhere}
-
-pub none-bad : (b : Bad) → isBad b ≡ false → b ≡ Nowhere
-none-bad (At k) h = absurd (true≢false h)
-none-bad Nowhere h = refl
+use Rattle.leaves.specs.Scan.{firstBad, firstBadOf, firstBadCell, firstBadLower, lowerBad, badLower, isBad, placeOf, cellBad, found}
+use Rattle.leaves.specs.ScanLaws.{firstBad-none, firstBad-fine, nowhere, never, not-bad}
+use Rattle.leaves.specs.declared.Bad.the-variants.{Nowhere}
 
 pub scan-finite : (d : Vec) → isBad (firstBad d) ≡ false → Finite d
-scan-finite d h = firstBad-none d (none-bad (firstBad d) h)
+scan-finite d h = firstBad-none d (not-bad (firstBad d) h)
 
 pub finite-scan : (d : Vec) → Finite d → isBad (firstBad d) ≡ false
 finite-scan d h = ap isBad (firstBad-fine d h)
@@ -58,7 +55,7 @@ module _ (rows cols : ℕ) (v : Vec) (long : length v ≡ rows * cols) (z : 0 < 
       let j : ℕ = k / rows in
       let p : i < rows = mod-lt k y in
       let q : j < cols = div-lt-iff-lt-mul y .1 (subst (λ (x : ℕ). k < x) (long ∙ mul-comm rows cols) l) in
-      let g : found (first (cellBad rows cols v) 0 (rows * cols)) (rows * cols) ≡ Nowhere = none-bad _ (rw row-count at h) in
+      let g : found (first (cellBad rows cols v) 0 (rows * cols)) (rows * cols) ≡ Nowhere = not-bad _ (rw row-count at h) in
       let s : not (isFinite (at2 v rows i j)) ≡ false = sym (seen-at i j p q) ∙ nowhere (cellBad rows cols v) (rows * cols) g (i * cols + j) (cell rows cols i j p q) in
       subst (λ (x : ℕ). isFinite (at v x) ≡ true) (div-add-mod' k rows) (not-false _ s)
     where

@@ -4,6 +4,7 @@ pub mod Parts
 pub mod Nearest
 pub mod Leaf
 pub mod Scan
+pub mod ScanLaws
 pub mod Finite
 pub mod FiniteLaws
 pub mod Compare

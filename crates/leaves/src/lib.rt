@@ -11,7 +11,8 @@ ghost use Rattle.leaves.specs.Root.{whole, root};
 ghost use Rattle.leaves.specs.Parts.{sig, exp, even, half, rootBits};
 ghost use Rattle.leaves.specs.Nearest.{Nearest};
 ghost use Rattle.leaves.specs.Leaf.{magnitude, larger, isFinite, hypotOf, hypot};
-ghost use Rattle.leaves.specs.Scan.{isBad, firstBad, badLower, firstBadLower, firstBadOf, firstBadCell, after};
+ghost use Rattle.leaves.specs.Scan.{isBad, firstBad, badLower, firstBadLower, firstBadOf, firstBadCell};
+ghost use Rattle.leaves.specs.ScanLaws.{after};
 use grid::at1;
 
 // What a scan found: the index of the first number that is not finite.

@@ -1,2 +1,2 @@
--- One QL pass of tql2.
+-- Pass: the definition of one QL pass of tql2.
 pub mod Pass

@@ -1,4 +1,5 @@
--- One QL pass of document 000's `tql2`, operation for operation, and what is looked at after it. v is the n by n matrix, column by column.
+-- One QL pass of document 000's `tql2`, operation for operation, and what is looked at after it. Definitions only.
+-- v is the n by n matrix, column by column. What a step changes comes last, in the order v, d, e, and in front of them the record or number that goes with it.
 use mathlib.Core.Bool.{Bool, cond, not, _||_}
 use Prim.Native.Nat.{ℕ, _+_}
 use lib.Ieee.{Float, neg, lt, le}
@@ -21,7 +22,7 @@ pythag x y = hypot x y
 unfoldable pub signed : Float → Float → Float
 signed p r = cond (lt p zero64) (neg r) r
 
--- the shift at l, to (h, d)
+-- the shift at l: h and d
 unfoldable pub shift : ℕ → Vec → Vec → Float × Vec
 shift l d e =
     let g = at d l in
@@ -50,12 +51,11 @@ rotStep n i c s k v =
 unfoldable pub rotated : ℕ → ℕ → Float → Float → Vec → Vec
 rotated n i c s v = upto (rotStep n i c s) 0 n v
 
--- one turn, at i: of (q, v, d, e)
+-- one turn, at i
 unfoldable pub spin : ℕ → ℕ → Spin × Vec × Vec × Vec → Spin × Vec × Vec × Vec
-spin n i x =
-    let q = x .0 in
-    let di = at (x .2) i in
-    let ei = at (x .3) i in
+spin n i (q, v, d, e) =
+    let di = at d i in
+    let ei = at e i in
     let g = q .c ⊗ ei in
     let h = q .c ⊗ q .p in
     let r = pythag (q .p) ei in
@@ -63,9 +63,9 @@ spin n i x =
     let c = q .p ⊘ r in
     let p = c ⊗ di ⊖ s ⊗ g in (
       record { c = c; c2 = q .c; c3 = q .c2; s = s; s2 = q .s; p = p },
-      rotated n i c s (x .1),
-      set (x .2) (i + 1) (h ⊕ s ⊗ (c ⊗ g ⊕ s ⊗ di)),
-      set (x .3) (i + 1) (q .s ⊗ r),
+      rotated n i c s v,
+      set d (i + 1) (h ⊕ s ⊗ (c ⊗ g ⊕ s ⊗ di)),
+      set e (i + 1) (q .s ⊗ r),
     )
 
 unfoldable pub spins : ℕ → ℕ → ℕ → Spin × Vec × Vec × Vec → Spin × Vec × Vec × Vec
@@ -75,24 +75,37 @@ spins n l m x = fall (spin n) l m x
 abbrev pub still : Float → Spin
 still p = record { c = one64; c2 = one64; c3 = one64; s = zero64; s2 = zero64; p = p }
 
--- what the turns leave at l: of (d, e)
+-- what the turns leave at l
 unfoldable pub landed : ℕ → Spin → Float → Float → Vec × Vec → Vec × Vec
-landed l q el1 dl1 x =
-    let p = neg (q .s) ⊗ q .s2 ⊗ q .c3 ⊗ el1 ⊗ at (x .1) l ⊘ dl1 in
-    (set (x .0) l (q .c ⊗ p), set (x .1) l (q .s ⊗ p))
+landed l q el1 dl1 (d, e) =
+    let p = neg (q .s) ⊗ q .s2 ⊗ q .c3 ⊗ el1 ⊗ at e l ⊘ dl1 in
+    (set d l (q .c ⊗ p), set e l (q .s ⊗ p))
 
--- the body of document 000's loop at l and m: of (v, d, e), to (h, v, d, e)
+-- the body of document 000's loop at l and m, which adds h to f: h, v, d and e
 unfoldable pub transformed : ℕ → ℕ → ℕ → Vec × Vec × Vec → Float × Vec × Vec × Vec
-transformed n l m x =
-    let a = shift l (x .1) (x .2) in
-    let dl1 = at (a .1) (l + 1) in
-    let d = lessened n l (a .0) (a .1) in
-    let el1 = at (x .2) (l + 1) in
-    let y = spins n l m (still (at d m), x .0, d, x .2) in
-    let z = landed l (y .0) el1 dl1 (y .2, y .3) in
-    (a .0, y .1, z .0, z .1)
+transformed n l m (v, d, e) =
+    let (h, d) = shift l d e in
+    let dl1 = at d (l + 1) in
+    let d = lessened n l h d in
+    let el1 = at e (l + 1) in
+    let (q, v, d, e) = spins n l m (still (at d m), v, d, e) in
+    let (d, e) = landed l q el1 dl1 (d, e) in
+    (h, v, d, e)
 
--- ---- the pass of a run: of (run, v, d, e)
+-- ---- the pass of a run
+
+-- why the passes at an l stop, `stop` in the run's record: passes are to be run; l has settled; a number is not finite; the limit is used up
+abbrev pub going : ℕ
+going = 0
+
+abbrev pub converged : ℕ
+converged = 1
+
+abbrev pub notFinite : ℕ
+notFinite = 8
+
+abbrev pub limitUsed : ℕ
+limitUsed = 9
 
 -- element k of e counts as zero
 abbrev pub tiny : Vec → Float → ℕ → Bool
@@ -102,16 +115,15 @@ tiny e tst1 k = le (magnitude (at e k)) (epsilon ⊗ tst1)
 unfoldable pub mark1 : Vec → Vec → Bool
 mark1 d e = isBad (firstBad d) || isBad (firstBad e)
 
--- after a pass at l: 8 mark 1, else 1 settled, else 0
+-- after a pass at l: mark 1, then document 000's convergence test
 unfoldable pub verdict : ℕ → Float → Vec → Vec → ℕ
-verdict l tst1 d e = cond (mark1 d e) 8 (cond (tiny e tst1 l) 1 0)
+verdict l tst1 d e = cond (mark1 d e) notFinite (cond (tiny e tst1 l) converged going)
 
 -- a run after one pass more
-abbrev pub counted : Run → Float → ℕ → Run
-counted r h stop = record { l = r .l; m = r .m; f = r .f ⊕ h; tst1 = r .tst1; passes = r .passes + 1; count = r .count + 1; stop = stop }
+abbrev pub afterPass : Run → Float → ℕ → Run
+afterPass r h stop = record { l = r .l; m = r .m; f = r .f ⊕ h; tst1 = r .tst1; passes = r .passes + 1; count = r .count + 1; stop = stop }
 
 unfoldable pub pass : ℕ → Run × Vec × Vec × Vec → Run × Vec × Vec × Vec
-pass n x =
-    let r = x .0 in
-    let y = transformed n (r .l) (r .m) (x .1, x .2, x .3) in
-    (counted r (y .0) (verdict (r .l) (r .tst1) (y .2) (y .3)), y .1, y .2, y .3)
+pass n (r, v, d, e) =
+    let (h, v, d, e) = transformed n (r .l) (r .m) (v, d, e) in
+    (afterPass r h (verdict (r .l) (r .tst1) d e), v, d, e)

@@ -2,8 +2,9 @@
 ghost use mathlib.Core.Path.{_≡_};
 ghost use Prim.Native.Nat.{_+_, _*_, _<_, _≤_, _^_};
 ghost use lib.ListN.{length};
-ghost use Rattle.grid.specs.Cell.{Sized};
+ghost use Rattle.grid.specs.CellLaws.{Sized};
 ghost use Rattle.pass.specs.Pass.{pythag, signed, shift, lessened, rotated, spin, spins, landed, transformed, mark1, verdict, pass};
+use grid::EPSILON;
 use grid::at;
 use grid::at1;
 use grid::put;
@@ -12,9 +13,6 @@ use leaves::first_bad;
 use leaves::hypot;
 use leaves::is_bad;
 use leaves::magnitude;
-
-// EPSILON, 2^-52.
-const EPSILON: f64 = 1.0 / 4503599627370496.0;
 
 // A run of `tql2` at l. stop is 0 while passes are to be run at l, 1 where l has settled, 8 where a number is not
 // finite, 9 where the limit is used up.
@@ -39,21 +37,21 @@ pub struct Spin {
 }
 
 // The one name by which `tql2` reaches hypot.
-pub fn pythag(x: f64, y: f64) -> f64
+fn pythag(x: f64, y: f64) -> f64
     ensures { λ r. ⌜ r ≡ pythag x y ⌝ }
 {
     hypot(x, y)
 }
 
 // r, with a minus where p is below 0.
-pub fn signed(p: f64, r: f64) -> f64
+fn signed(p: f64, r: f64) -> f64
     ensures { λ g. ⌜ g ≡ signed p r ⌝ }
 {
     if p < 0.0 { -r } else { r }
 }
 
 // The implicit shift at l: d[l] and d[l + 1] change, and h is given back.
-pub fn shift(l: usize, d: &mut [f64], e: &[f64]) -> f64
+fn shift(l: usize, d: &mut [f64], e: &[f64]) -> f64
     requires { ⌜ (l + 1 < length (now d)) × (l < length (now e)) ⌝ }
     ensures { λ h. ⌜ (h, now (d .exit)) ≡ shift l (now (d .entry)) (now (e .entry)) ⌝ }
 {
@@ -68,7 +66,7 @@ pub fn shift(l: usize, d: &mut [f64], e: &[f64]) -> f64
 }
 
 // d less h, from l + 2 on.
-pub fn lessen(n: usize, l: usize, h: f64, d: &mut [f64])
+fn lessen(n: usize, l: usize, h: f64, d: &mut [f64])
     requires { ⌜ (l + 1 < n) × (length (now d) ≡ n) ⌝ }
     ensures { λ _. ⌜ now (d .exit) ≡ lessened n l h (now (d .entry)) ⌝ }
 {
@@ -78,7 +76,7 @@ pub fn lessen(n: usize, l: usize, h: f64, d: &mut [f64])
 }
 
 // Columns i and i + 1 of v are turned.
-pub fn rotate(n: usize, i: usize, c: f64, s: f64, v: &mut [f64])
+fn rotate(n: usize, i: usize, c: f64, s: f64, v: &mut [f64])
     requires { ⌜ (i + 1 < n) × (length (now v) ≡ n * n) ⌝ }
     ensures { λ _. ⌜ now (v .exit) ≡ rotated n i c s (now (v .entry)) ⌝ }
 {
@@ -91,7 +89,7 @@ pub fn rotate(n: usize, i: usize, c: f64, s: f64, v: &mut [f64])
 }
 
 // One turn of the transformation, at i.
-pub fn spin_at(n: usize, i: usize, q: Spin, v: &mut [f64], d: &mut [f64], e: &mut [f64]) -> Spin
+fn spin_at(n: usize, i: usize, q: Spin, v: &mut [f64], d: &mut [f64], e: &mut [f64]) -> Spin
     requires { ⌜ (i + 1 < n) × Sized n (now v) (now d) (now e) ⌝ }
     ensures { λ r. ⌜ (r, now (v .exit), now (d .exit), now (e .exit)) ≡ spin n i (q, now (v .entry), now (d .entry), now (e .entry)) ⌝ }
 {
@@ -116,7 +114,7 @@ pub fn spin_at(n: usize, i: usize, q: Spin, v: &mut [f64], d: &mut [f64], e: &mu
 }
 
 // The turns at m - 1, m - 2, .., l.
-pub fn spins(
+fn spins(
     n: usize,
     l: usize,
     m: usize,
@@ -138,7 +136,7 @@ pub fn spins(
 }
 
 // What the turns leave at l.
-pub fn land(l: usize, q: Spin, el1: f64, dl1: f64, d: &mut [f64], e: &mut [f64])
+fn land(l: usize, q: Spin, el1: f64, dl1: f64, d: &mut [f64], e: &mut [f64])
     requires { ⌜ (l < length (now d)) × (l < length (now e)) ⌝ }
     ensures { λ _. ⌜ (now (d .exit), now (e .exit)) ≡ landed l q el1 dl1 (now (d .entry), now (e .entry)) ⌝ }
 {
@@ -148,7 +146,7 @@ pub fn land(l: usize, q: Spin, el1: f64, dl1: f64, d: &mut [f64], e: &mut [f64])
 }
 
 // The body of document 000's loop, which adds the h given back to f.
-pub fn transform(n: usize, l: usize, m: usize, v: &mut [f64], d: &mut [f64], e: &mut [f64]) -> f64
+fn transform(n: usize, l: usize, m: usize, v: &mut [f64], d: &mut [f64], e: &mut [f64]) -> f64
     requires { ⌜ (l < m) × (m < n) × Sized n (now v) (now d) (now e) ⌝ }
     ensures { λ h. ⌜ (h, now (v .exit), now (d .exit), now (e .exit)) ≡ transformed n l m (now (v .entry), now (d .entry), now (e .entry)) ⌝ }
 {
@@ -187,8 +185,8 @@ pub fn mark1(d: &[f64], e: &[f64]) -> bool
     is_bad(first_bad(e))
 }
 
-// What stops the passes at l: mark 1, then document 000's convergence test.
-pub fn verdict(l: usize, tst1: f64, d: &[f64], e: &[f64]) -> usize
+// What stops the passes at l: mark 1 (8), then document 000's convergence test (1); else they go on (0).
+fn verdict(l: usize, tst1: f64, d: &[f64], e: &[f64]) -> usize
     requires { ⌜ l < length (now e) ⌝ }
     ensures { λ r. ⌜ r ≡ verdict l tst1 (now (d .entry)) (now (e .entry)) ⌝ }
 {

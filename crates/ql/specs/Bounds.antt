@@ -1,4 +1,4 @@
--- What stays in bounds: a run's l and m, how far its count can go, where the least of a list is. Laws of the definitions.
+-- What stays in bounds: a run's l and m, how far its count can go, where the least of a list is. Laws only.
 use mathlib.Core.Path.{_≡_, refl, ap, _∙_}
 use mathlib.Core.Bool.{Bool, true, false, cond}
 use Prim.Native.Nat.{ℕ, zero, suc, _+_, _-_, _≤_, _<_, _^_}
@@ -6,11 +6,12 @@ use native.Mathlib.Omega.{arith}
 use borrow.Author.Tests.{ltb-true}
 use lib.Dec.{ltb, eqb}
 use lib.Ieee.{Float, lt}
-use Rattle.grid.specs.Loop.{seek, first, rounds, upto-keeps}
+use Rattle.grid.specs.Loop.{seek, first, rounds}
+use Rattle.grid.specs.LoopLaws.{upto-keeps}
 use Rattle.grid.specs.Real.{Vec, at}
 use Rattle.pass.specs.Pass.{tiny, pass}
 use Rattle.pass.specs.declared.Run.{Run}
-use Rattle.ql.specs.Ql.{State, Ready, split, opened, ended, iterated, released, stopping, closed, stage, turn, better, least}
+use Rattle.ql.specs.Ql.{State, split, opened, ended, iterated, released, stopping, closed, stage, turn, better, leastFrom}
 use Rattle.ql.specs.declared.Best.{Best}
 
 -- ---- m is below n
@@ -31,6 +32,13 @@ split-below n l tst1 e h = omega (arith, seek-le (tiny e tst1) l (n - 1 - l))
 unsettled : (b : Bool) (l m : ℕ) → ltb l m ≡ b → _≡_ {A = ℕ} (cond b 0 1) 0 → l < m
 unsettled true l m t s = ltb-true l m t
 unsettled false l m t s = absurd (omega arith)
+
+-- what a run must be to have passes run: l below m where it has not settled, no pass run here, and room for the count
+pub record Ready (n : ℕ) (r : Run) : Type 0 where
+  pub below : r .stop ≡ 0 → r .l < r .m
+  pub within : r .m < n
+  pub none : r .passes ≡ 0
+  pub room : r .count + 60 < 2 ^ 64
 
 pub opened-ready : (n l : ℕ) (r : Run) (d e : Vec) → l < n → r .count + 60 < 2 ^ 64 → Ready n (opened n l r d e)
 unfolding opened
@@ -111,9 +119,9 @@ turn-count n limit l x = go (ended x)
 
 -- ---- the sort
 
-pub least-below : (n i : ℕ) (d : Vec) (b : Best) → i < n → b ≡ least n i d → b .k < n
-unfolding least
-least-below n i d b h e =
+pub leastFrom-below : (n i : ℕ) (d : Vec) (b : Best) → i < n → b ≡ leastFrom n i d → b .k < n
+unfolding leastFrom
+leastFrom-below n i d b h e =
     let first : Best = record { k = i; p = at d i } in
     rw e (upto-keeps (λ s t. s .k < n) (better d) (better d) (i + 1) n first first (λ j s t a l g. go (lt (at d j) (s .p)) j s l g) h)
   where

@@ -1,5 +1,5 @@
--- The last element of e is a zero, and tst1 is neither negative nor nan, at each l that a run comes to. So document 000's own test for a split holds at n - 1,
--- and its search for m, which goes on to n, ends where `split` does. Assumes nothing.
+-- The last element of e is a zero, and tst1 is neither negative nor nan, at each l that a run comes to. Laws only.
+-- So document 000's own test for a split holds at n - 1, and its search for m, which goes on to n, ends where `split` does. Assumes nothing.
 use mathlib.Core.Path.{_≡_, refl, sym, ap, _∙_, subst}
 use mathlib.Core.Bool.{Bool, true, false, cond, not, _&&_, _||_, Bool·beq, true≢false}
 use Prim.Native.Nat.{ℕ, zero, suc, _+_, _-_, _*_, _≤_, _<_, _^_}
@@ -15,7 +15,8 @@ use lib.Seq.{getD-set-same, getD-set-other}
 use lib.Ieee.{Float, nan, inf, fin, Format, binary64, prec, emax, low, up, down, round, units, odd, ofBits, mul, lt, le}
 use lib.Ieee.Fits.{up-pos, down-pos, round-is}
 use lib.Ieee.Exact.{HasValue, round-exact}
-use Rattle.grid.specs.Loop.{seek, first, upto, upto-keeps, fall, drops}
+use Rattle.grid.specs.Loop.{seek, first, upto, fall, drops}
+use Rattle.grid.specs.LoopLaws.{upto-keeps}
 use Rattle.grid.specs.Real.{Vec, zero64, epsilon, at, _⊗_}
 use Rattle.leaves.specs.Leaf.{magnitude, larger, isFinite}
 use Rattle.pass.specs.Pass.{pythag, spin, spins, still, landed, transformed, tiny}

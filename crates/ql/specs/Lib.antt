@@ -1,9 +1,10 @@
--- tql2: the run over l with its marks and its limit, and the sort; document 000's own tql2; what marks and the limit do.
+-- Ql: the definition of tql2, the run over l with its marks and its limit, and the sort. Document: document 000's own tql2. The others are laws.
 pub mod Ql
 pub mod Bounds
 pub mod Limit
 pub mod Last
 pub mod Document
+pub mod DocumentLaws
 pub mod Long
 pub mod Told
 pub mod ToldLaws

@@ -1,11 +1,13 @@
--- A higher limit changes nothing that ended below the lower one: a run that does not end with refusal 9 is the same run at every higher limit. Assumes nothing.
+-- A higher limit changes nothing that ended below the lower one. Laws only.
+-- A run that does not end with refusal 9 is the same run at every higher limit. Assumes nothing.
 use mathlib.Core.Path.{_≡_, refl, ap, _∙_}
 use mathlib.Core.Bool.{Bool, true, false, cond, not}
 use Prim.Native.Nat.{ℕ, _≤_, _<_}
 use native.Mathlib.Omega.{arith}
 use lib.Dec.{eqb}
 use borrow.Author.Tests.{eqb-true}
-use Rattle.grid.specs.Loop.{rounds, rounds-limit, upto-both}
+use Rattle.grid.specs.Loop.{rounds}
+use Rattle.grid.specs.LoopLaws.{rounds-limit, upto-both}
 use Rattle.grid.specs.Real.{Vec}
 use Rattle.pass.specs.Pass.{pass}
 use Rattle.ql.specs.Ql.{State, fresh, movedUp, opened, ended, iterated, closed, stage, turn, run, finished, tql2}

@@ -7,11 +7,11 @@ use lib.Ieee.{Float}
 use lib.ListN.{length, length-set}
 use Rattle.grid.specs.Loop.{drops, fall}
 use Rattle.grid.specs.Real.{Vec}
-use Rattle.grid.specs.Cell.{upto-long}
+use Rattle.grid.specs.CellLaws.{upto-long}
 use Rattle.pass.specs.Pass.{shift, lessStep, lessened, rotStep, rotated, spin, spins, landed, transformed}
 use Rattle.pass.specs.declared.Spin.{Spin}
-use Rattle.ql.specs.Ql.{least, swapStep, swapped, sortStep, sorted}
-use Rattle.ql.specs.Document.{Carried, passed, Looped, once, again, Turned, at-once, by-passes, Ran, none, more, Tql2}
+use Rattle.ql.specs.Ql.{leastFrom, swapStep, swapped, sortStep, sorted}
+use Rattle.ql.specs.Document.{Carried, body, Looped, once, again, Turned, at-once, by-passes, Ran, none, more, Tql2}
 
 rotated-long : (n i : ℕ) (c s : Float) (v : Vec) → length (rotated n i c s v) ≡ length v
 unfolding rotated
@@ -32,17 +32,17 @@ drops-long n l (suc k) x =
     let w = drops-long n l k (spin n (l + k) x) in
     record { vectors = w .vectors ∙ rotated-long n (l + k) _ _ (x .1); values = w .values ∙ simp length-set }
 
-passed-long : (n l m : ℕ) (x : Carried) → Long (x .v) (x .d) (passed n l m x .v) (passed n l m x .d)
+body-long : (n l m : ℕ) (x : Carried) → Long (x .v) (x .d) (body n l m x .v) (body n l m x .d)
 unfolding transformed spins fall landed shift
-passed-long n l m x =
+body-long n l m x =
     let w = drops-long n l (m - l) _ in
     record { vectors = w .vectors; values = simp length-set (w .values ∙ lessened-long n l _ _ ∙ simp length-set) }
 
 looped-long : (n l m : ℕ) {x y : Carried} → Looped n l m x y → Long (x .v) (x .d) (y .v) (y .d)
-looped-long n l m {x} (once p) = passed-long n l m x
+looped-long n l m {x} (once p) = body-long n l m x
 looped-long n l m {x} (again p a) =
     let w = looped-long n l m a in
-    let u = passed-long n l m x in
+    let u = body-long n l m x in
     record { vectors = w .vectors ∙ u .vectors; values = w .values ∙ u .values }
 
 turned-long : (n l : ℕ) {x y : Carried} → Turned n l x y → Long (x .v) (x .d) (y .v) (y .d)
@@ -66,7 +66,7 @@ swapped-square n i k v = upto-long (λ v. v) (swapStep n i k) 0 n v (λ j u. sim
 
 sort-square : (n i : ℕ) (x : Vec × Vec) → length (sortStep n i x .0) ≡ length (x .0)
 unfolding sortStep
-sort-square n i x = go (eqb (least n i (x .1) .k) i) (swapped n i _ (x .0), _) (swapped-square n i _ (x .0))
+sort-square n i x = go (eqb (leastFrom n i (x .1) .k) i) (swapped n i _ (x .0), _) (swapped-square n i _ (x .0))
   where
     go : (b : Bool) (y : Vec × Vec) → length (y .0) ≡ length (x .0) → length (cond b x y .0) ≡ length (x .0)
     go true y h = refl

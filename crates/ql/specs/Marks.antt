@@ -10,7 +10,8 @@ use lib.Dec.{ltb, eqb}
 use lib.Ieee.{Float, nan}
 use lib.ListN.{length, length-set}
 use lib.Seq.{getD-set-same, getD-set-other}
-use Rattle.grid.specs.Loop.{rounds, upto, upto-both}
+use Rattle.grid.specs.Loop.{rounds, upto}
+use Rattle.grid.specs.LoopLaws.{upto-both}
 use Rattle.grid.specs.Real.{Vec, zero64, at, _⊕_}
 use Rattle.leaves.specs.Leaf.{magnitude, larger}
 use Rattle.leaves.specs.Scan.{firstBad, firstBadCell, isBad}
@@ -268,13 +269,13 @@ test-at-last n limit l v d e h g q = go (stands n limit l (v, d, e) (omega arith
 
 -- ---- the whole
 
-mark2-whole : (n : ℕ) (x : Carried) → 0 < n → length (x .v) ≡ n * n → mark2 n (x .d) (x .v) ≡ false → Whole x
+mark2-whole : (n : ℕ) (x : Carried) → 0 < n → length (x .v) ≡ n * n → mark2 n (x .v) (x .d) ≡ false → Whole x
 unfolding mark2
 mark2-whole n x z l h =
     let o = or-false (isBad (firstBad (x .d))) (isBad (firstBadCell n (x .v))) h in
     record { values = scan-finite (x .d) (o .0); vectors = cells-finite n n (x .v) l z (o .1) }
 
-whole-mark2 : (n : ℕ) (x : Carried) → 0 < n → length (x .v) ≡ n * n → Whole x → mark2 n (x .d) (x .v) ≡ false
+whole-mark2 : (n : ℕ) (x : Carried) → 0 < n → length (x .v) ≡ n * n → Whole x → mark2 n (x .v) (x .d) ≡ false
 unfolding mark2
 whole-mark2 n x z l w = rw (finite-scan (x .d) (w .values), finite-cells n n (x .v) l z (w .vectors))
 
@@ -288,12 +289,12 @@ finished-told n limit x y z long s = go s
     after : ℕ → Ended
     after s =
         cond (eqb s 8) (answered 8 1 (y .0 .count), y .1, y .2, y .3)
-        (cond (eqb s 9) (answered 9 (y .0 .l) (y .0 .count), y .1, y .2, y .3) (end (mark2 n (y .2) (y .1))))
+        (cond (eqb s 9) (answered 9 (y .0 .l) (y .0 .count), y .1, y .2, y .3) (end (mark2 n (y .1) (y .2))))
 
     over : {s : ℕ} → y .0 .stop ≡ s → Told n limit x (after s) → Told n limit x (after (y .0 .stop))
     over q a = subst (λ (s : ℕ). Told n limit x (after s)) (sym q) a
 
-    last : Ran n limit (begun n x) n (y .0 .count) (carried y) → length (y .1) ≡ n * n → (b : Bool) → mark2 n (y .2) (y .1) ≡ b → Told n limit x (end b)
+    last : Ran n limit (begun n x) n (y .0 .count) (carried y) → length (y .1) ≡ n * n → (b : Bool) → mark2 n (y .1) (y .2) ≡ b → Told n limit x (end b)
     last r l true e = at-mark2 r (λ w. true≢false (sym e ∙ whole-mark2 n (carried y) z l w))
     last r l false e = well r (mark2-whole n (carried y) z l e)
 
@@ -301,7 +302,7 @@ finished-told n limit x y z long s = go s
     go (marked q w) = over q (subst (λ (k : ℕ). Told n limit x (answered 8 1 k, y .1, y .2, y .3)) (sym (w .counts)) (at-mark1 (w .below) (w .ran) (w .turned)))
     go (spent q w) =
         over q (subst (λ (t : ℕ × ℕ). Told n limit x (answered 9 (t .0) (t .1), y .1, y .2, y .3)) (λ i. (sym (w .stays) i, sym (w .counts) i)) (at-limit (w .below) (w .ran) (w .turned)))
-    go (going q f r) = over q (last r (ran-long n (ran-document n limit r) .vectors ∙ long) (mark2 n (y .2) (y .1)) refl)
+    go (going q f r) = over q (last r (ran-long n (ran-document n limit r) .vectors ∙ long) (mark2 n (y .1) (y .2)) refl)
 
 -- **the outcome of tql2 is the one that is told**
 pub told : (n limit : ℕ) (x : Vec × Vec × Vec) → 0 < n → length (x .0) ≡ n * n → length (x .2) ≡ n → Told n limit x (tql2 n limit x)

@@ -1,7 +1,7 @@
--- Document 000's `tql2`, operation for operation, with the marks and the limit of 01. v is the n by n matrix, column by column.
-use mathlib.Core.Path.{_≡_}
+-- Document 000's `tql2`, operation for operation, with the marks and the limit of 01. Definitions only.
+-- v is the n by n matrix, column by column. What a step changes comes last, in the order v, d, e, and the run's record r in front of them.
 use mathlib.Core.Bool.{Bool, cond, not, _||_}
-use Prim.Native.Nat.{ℕ, _+_, _-_, _<_, _^_}
+use Prim.Native.Nat.{ℕ, _+_, _-_}
 use lib.Dec.{ltb, eqb}
 use lib.Ieee.{Float, lt}
 use lib.ListN.{set}
@@ -12,12 +12,13 @@ use Rattle.leaves.specs.Leaf.{magnitude, larger}
 use Rattle.leaves.specs.Scan.{firstBad, firstBadCell, isBad}
 use Rattle.answers.specs.Answers.{done, answered}
 use Rattle.answers.specs.declared.Answer.{Answer}
-use Rattle.pass.specs.Pass.{tiny, pass}
+use Rattle.pass.specs.Pass.{tiny, going, converged, notFinite, limitUsed, pass}
 use Rattle.pass.specs.declared.Run.{Run}
 use Rattle.ql.specs.declared.Best.{Best}
 
--- ---- the run over l: of (run, v, d, e)
+-- ---- the run over l
 
+-- the run, v, d and e
 abbrev pub State : Type 0
 State = Run × Vec × Vec × Vec
 
@@ -30,7 +31,7 @@ movedUp n e = set (upto upStep 1 n e) (n - 1) zero64
 
 -- a run before its first l
 abbrev pub fresh : Run
-fresh = record { l = 0; m = 0; f = zero64; tst1 = zero64; passes = 0; count = 0; stop = 0 }
+fresh = record { l = 0; m = 0; f = zero64; tst1 = zero64; passes = 0; count = 0; stop = going }
 
 -- a run with another reason to stop
 abbrev pub stopping : Run → ℕ → Run
@@ -45,17 +46,10 @@ unfoldable pub opened : ℕ → ℕ → Run → Vec → Vec → Run
 opened n l r d e =
     let tst1 = larger (r .tst1) (magnitude (at d l) ⊕ magnitude (at e l)) in
     let m = split n l tst1 e in
-    record { l = l; m = m; f = r .f; tst1 = tst1; passes = 0; count = r .count; stop = cond (ltb l m) 0 1 }
-
--- what a run must be to have passes run: l below m where it has not settled, no pass run here, and room for the count
-pub record Ready (n : ℕ) (r : Run) : Type 0 where
-  pub below : r .stop ≡ 0 → r .l < r .m
-  pub within : r .m < n
-  pub none : r .passes ≡ 0
-  pub room : r .count + 60 < 2 ^ 64
+    record { l = l; m = m; f = r .f; tst1 = tst1; passes = 0; count = r .count; stop = cond (ltb l m) going converged }
 
 abbrev pub ended : State → Bool
-ended x = not (eqb (x .0 .stop) 0)
+ended (r, v, d, e) = not (eqb (r .stop) going)
 
 -- at most so many passes at one l, until mark 1 or the convergence test ends them
 unfoldable pub iterated : ℕ → ℕ → State → State
@@ -63,16 +57,17 @@ iterated n limit x = cond (ended x) x (rounds (pass n) ended limit x)
 
 -- the l that has settled: its value is d[l] + f
 abbrev pub released : State → State
-released x =
-    let r = x .0 in
-    (stopping r 0, x .1, set (x .2) (r .l) (at (x .2) (r .l) ⊕ r .f), set (x .3) (r .l) zero64)
+released (r, v, d, e) = (stopping r going, v, set d (r .l) (at d (r .l) ⊕ r .f), set e (r .l) zero64)
 
 -- what the passes at l came to: settled, or the limit used up, or mark 1
 unfoldable pub closed : State → State
-closed x = cond (eqb (x .0 .stop) 1) (released x) (cond (eqb (x .0 .stop) 0) (stopping (x .0) 9, x .1, x .2, x .3) x)
+closed (r, v, d, e) =
+    cond (eqb (r .stop) converged)
+    (released (r, v, d, e))
+    (cond (eqb (r .stop) going) (stopping r limitUsed, v, d, e) (r, v, d, e))
 
 unfoldable pub stage : ℕ → ℕ → ℕ → State → State
-stage n limit l x = closed (iterated n limit (opened n l (x .0) (x .2) (x .3), x .1, x .2, x .3))
+stage n limit l (r, v, d, e) = closed (iterated n limit (opened n l r d e, v, d, e))
 
 -- a run that has stopped stays as it is
 unfoldable pub turn : ℕ → ℕ → ℕ → State → State
@@ -81,14 +76,14 @@ turn n limit l x = cond (ended x) x (stage n limit l x)
 unfoldable pub run : ℕ → ℕ → State → State
 run n limit x = upto (turn n limit) 0 n x
 
--- ---- the sort: of (v, d)
+-- ---- the sort
 
 -- the least of d from i on, and where it is
 abbrev pub better : Vec → ℕ → Best → Best
 better d j b = cond (lt (at d j) (b .p)) (record { k = j; p = at d j }) b
 
-unfoldable pub least : ℕ → ℕ → Vec → Best
-least n i d = upto (better d) (i + 1) n (record { k = i; p = at d i })
+unfoldable pub leastFrom : ℕ → ℕ → Vec → Best
+leastFrom n i d = upto (better d) (i + 1) n (record { k = i; p = at d i })
 
 -- columns i and k of v change places
 abbrev pub swapStep : ℕ → ℕ → ℕ → ℕ → Vec → Vec
@@ -102,28 +97,28 @@ swapped n i k v = upto (swapStep n i k) 0 n v
 
 -- the least value from i on comes to i, and its column with it
 unfoldable pub sortStep : ℕ → ℕ → Vec × Vec → Vec × Vec
-sortStep n i x =
-    let b = least n i (x .1) in
-    cond (eqb (b .k) i) x (swapped n i (b .k) (x .0), set (set (x .1) (b .k) (at (x .1) i)) i (b .p))
+sortStep n i (v, d) =
+    let b = leastFrom n i d in
+    cond (eqb (b .k) i) (v, d) (swapped n i (b .k) v, set (set d (b .k) (at d i)) i (b .p))
 
 unfoldable pub sorted : ℕ → Vec × Vec → Vec × Vec
 sorted n x = upto (sortStep n) 0 (n - 1) x
 
--- ---- the whole: the answer, and (v, d, e)
+-- ---- the whole: the answer, v, d and e
 
 -- mark 2: a number of d or of v is not finite
 unfoldable pub mark2 : ℕ → Vec → Vec → Bool
-mark2 n d v = isBad (firstBad d) || isBad (firstBadCell n v)
+mark2 n v d = isBad (firstBad d) || isBad (firstBadCell n v)
 
 unfoldable pub finished : ℕ → State → Answer × Vec × Vec × Vec
-finished n x =
-    let r = x .0 in
-    let y = sorted n (x .1, x .2) in
-    cond (eqb (r .stop) 8)
-    (answered 8 1 (r .count), x .1, x .2, x .3)
-    (cond (eqb (r .stop) 9)
-    (answered 9 (r .l) (r .count), x .1, x .2, x .3)
-    (cond (mark2 n (x .2) (x .1)) (answered 8 2 (r .count), x .1, x .2, x .3) (done (r .count), y .0, y .1, x .3)))
+finished n (r, v, d, e) =
+    cond (eqb (r .stop) notFinite)
+    (answered 8 1 (r .count), v, d, e)
+    (cond (eqb (r .stop) limitUsed)
+    (answered 9 (r .l) (r .count), v, d, e)
+    (cond (mark2 n v d)
+    (answered 8 2 (r .count), v, d, e)
+    (let (v, d) = sorted n (v, d) in (done (r .count), v, d, e))))
 
 unfoldable pub tql2 : ℕ → ℕ → Vec × Vec × Vec → Answer × Vec × Vec × Vec
-tql2 n limit x = finished n (run n limit (fresh, x .0, x .1, movedUp n (x .2)))
+tql2 n limit (v, d, e) = finished n (run n limit (fresh, v, d, movedUp n e))

@@ -9,12 +9,13 @@ use lib.Dec.{eqb}
 use lib.Ieee.{Float, nan, lt}
 use lib.ListN.{length, set, length-set}
 use lib.Seq.{getD-set-same, getD-set-other}
-use Rattle.grid.specs.Loop.{upto-both}
+use Rattle.grid.specs.LoopLaws.{upto-both}
 use Rattle.grid.specs.Real.{Vec, at}
-use Rattle.grid.specs.Cell.{at2, put2, put-here, put-elsewhere}
+use Rattle.grid.specs.Cell.{at2, put2}
+use Rattle.grid.specs.CellLaws.{put-here, put-elsewhere}
 use Rattle.leaves.specs.Leaf.{isFinite}
 use Rattle.leaves.specs.Compare.{lt-self, lt-chain, lt-turn}
-use Rattle.ql.specs.Ql.{better, least, swapStep, swapped, sortStep, sorted}
+use Rattle.ql.specs.Ql.{better, leastFrom, swapStep, swapped, sortStep, sorted}
 use Rattle.ql.specs.declared.Best.{Best}
 use Rattle.ql.specs.Arranged.{Permutation, Arranged}
 
@@ -63,8 +64,8 @@ pub record Least (n i : ℕ) (d : Vec) (j : ℕ) (b : Best) : Type 0 where
   pub low : (q : ℕ) → i ≤ q → q < j → lt (at d q) (b .p) ≡ false
 
 module _ (n i : ℕ) (d : Vec) (f : (k : ℕ) → k < n → isFinite (at d k) ≡ true) where
-  better-least : (j : ℕ) (b : Best) → i < j → j < n → Least n i d j b → Least n i d (j + 1) (better d j b)
-  better-least j b h g s = go (lt (at d j) (b .p)) refl
+  better-leastFrom : (j : ℕ) (b : Best) → i < j → j < n → Least n i d j b → Least n i d (j + 1) (better d j b)
+  better-leastFrom j b h g s = go (lt (at d j) (b .p)) refl
     where
       old : isFinite (b .p) ≡ true
       old = ap isFinite (s .value) ∙ f (b .k) (s .below)
@@ -85,10 +86,10 @@ module _ (n i : ℕ) (d : Vec) (f : (k : ℕ) → k < n → isFinite (at d k) �
             | no r ↦ s .low q a (omega arith)
           ]
 
-  pub least-is : i < n → Least n i d n (least n i d)
-  unfolding least
-  least-is h =
-      upto-both (λ j s t. Least n i d j s) (better d) (better d) (i + 1) n (record { k = i; p = at d i }) (record { k = i; p = at d i }) (omega arith) (λ j s t a b r. better-least j s (omega arith) b r)
+  pub leastFrom-is : i < n → Least n i d n (leastFrom n i d)
+  unfolding leastFrom
+  leastFrom-is h =
+      upto-both (λ j s t. Least n i d j s) (better d) (better d) (i + 1) n (record { k = i; p = at d i }) (record { k = i; p = at d i }) (omega arith) (λ j s t a b r. better-leastFrom j s (omega arith) b r)
       (record { from = omega arith; below = h; value = refl; low = alone })
     where
       alone : (q : ℕ) → i ≤ q → q < i + 1 → lt (at d q) (at d i) ≡ false
@@ -158,10 +159,10 @@ unfolding sortStep
 one-step n i x h lv ld f = go (eqb (b .k) i) refl
   where
     b : Best
-    b = least n i (x .1)
+    b = leastFrom n i (x .1)
 
     s : Least n i (x .1) n b
-    s = least-is n i (x .1) f h
+    s = leastFrom-is n i (x .1) f h
 
     low : (q : ℕ) → i ≤ q → q < n → lt (at (x .1) q) (at (x .1) (b .k)) ≡ false
     low q a c = ap (lt (at (x .1) q)) (sym (s .value)) ∙ s .low q a c

@@ -9,7 +9,7 @@ use Rattle.leaves.specs.Finite.{Finite}
 use Rattle.answers.specs.Answers.{answered, done}
 use Rattle.answers.specs.declared.Answer.{Answer}
 use Rattle.ql.specs.Ql.{sorted}
-use Rattle.ql.specs.Document.{Carried, begun, grown, searched, passed, settled, valued}
+use Rattle.ql.specs.Document.{Carried, begun, grown, searched, body, settled, valued}
 
 -- d and e are finite: what mark 1 looks at
 pub record Sound (x : Carried) : Type 0 where
@@ -25,10 +25,10 @@ pub data End : Type 0 where
 -- `loop { .. }` at l and m with so many passes left: entered at x, left at y after so many passes
 pub data Looped (n l m : ℕ) : ℕ → ℕ → Carried → End → Carried → Type 0 where
   no-more : {x : Carried} → Looped n l m zero zero x used x
-  stop : {k : ℕ} {x : Carried} → (Sound (passed n l m x) → ⊥) → Looped n l m (suc k) 1 x bad (passed n l m x)
-  once : {k : ℕ} {x : Carried} → Sound (passed n l m x) → settled l (passed n l m x) ≡ true → Looped n l m (suc k) 1 x here (passed n l m x)
-  again : {k c : ℕ} {e : End} {x y : Carried} → Sound (passed n l m x) → settled l (passed n l m x) ≡ false
-      → Looped n l m k c (passed n l m x) e y → Looped n l m (suc k) (suc c) x e y
+  stop : {k : ℕ} {x : Carried} → (Sound (body n l m x) → ⊥) → Looped n l m (suc k) 1 x bad (body n l m x)
+  once : {k : ℕ} {x : Carried} → Sound (body n l m x) → settled l (body n l m x) ≡ true → Looped n l m (suc k) 1 x here (body n l m x)
+  again : {k c : ℕ} {e : End} {x y : Carried} → Sound (body n l m x) → settled l (body n l m x) ≡ false
+      → Looped n l m k c (body n l m x) e y → Looped n l m (suc k) (suc c) x e y
 
 -- one l: `if m > l { loop .. }`, and its value where it settles
 pub data Turned (n limit l : ℕ) (x : Carried) : ℕ → End → Carried → Type 0 where

@@ -3,9 +3,13 @@ ghost use mathlib.Core.Path.{_≡_};
 ghost use Prim.Native.Nat.{_+_, _*_, _-_, _<_, _≤_, _^_};
 ghost use lib.ListN.{length};
 ghost use Rattle.grid.specs.Real.{Vec};
-ghost use Rattle.grid.specs.Cell.{Sized};
-ghost use Rattle.ql.specs.Ql.{Ready, movedUp, split, opened, iterated, stopping, closed, turn, run, fresh, better, least, swapped, sortStep, sorted, mark2, finished, tql2};
+ghost use Rattle.grid.specs.CellLaws.{Sized};
+ghost use Rattle.ql.specs.Bounds.{Ready};
+ghost use Rattle.ql.specs.Ql.{movedUp, split, opened, iterated, stopping, closed, turn, run, fresh, better, leastFrom, swapped, sortStep, sorted, mark2, finished, tql2};
 use answers::Answer;
+use answers::answered;
+use answers::done;
+use grid::EPSILON;
 use grid::at;
 use grid::at1;
 use grid::put;
@@ -18,9 +22,6 @@ use leaves::magnitude;
 use pass::Run;
 use pass::pass;
 
-// EPSILON, 2^-52.
-const EPSILON: f64 = 1.0 / 4503599627370496.0;
-
 // The least number so far, and where it is.
 pub struct Best {
     pub k: usize,
@@ -28,7 +29,7 @@ pub struct Best {
 }
 
 // The subdiagonal moves one place towards the start, and its last is 0.
-pub fn move_up(n: usize, e: &mut [f64])
+fn move_up(n: usize, e: &mut [f64])
     requires { ⌜ (0 < n) × (length (now e) ≡ n) ⌝ }
     ensures { λ _. ⌜ now (e .exit) ≡ movedUp n (now (e .entry)) ⌝ }
 {
@@ -39,7 +40,7 @@ pub fn move_up(n: usize, e: &mut [f64])
 }
 
 // The m to split on.
-pub fn split(n: usize, l: usize, tst1: f64, e: &[f64]) -> usize
+fn split(n: usize, l: usize, tst1: f64, e: &[f64]) -> usize
     requires { ⌜ (l < n) × (length (now e) ≡ n) ⌝ }
     ensures { λ r. ⌜ r ≡ split n l tst1 (now (e .entry)) ⌝ }
 {
@@ -54,7 +55,7 @@ pub fn split(n: usize, l: usize, tst1: f64, e: &[f64]) -> usize
 }
 
 // The run comes to l.
-pub fn begin(n: usize, l: usize, r: Run, d: &[f64], e: &[f64]) -> Run
+fn begin(n: usize, l: usize, r: Run, d: &[f64], e: &[f64]) -> Run
     requires { ⌜ (l < n) × (length (now d) ≡ n) × (length (now e) ≡ n) ⌝ }
     ensures { λ q. ⌜ q ≡ opened n l r (now (d .entry)) (now (e .entry)) ⌝ }
 {
@@ -83,7 +84,7 @@ pub fn begin(n: usize, l: usize, r: Run, d: &[f64], e: &[f64]) -> Run
 }
 
 // At most limit passes at the run's l.
-pub fn iterate(n: usize, limit: usize, r0: Run, v: &mut [f64], d: &mut [f64], e: &mut [f64]) -> Run
+fn iterate(n: usize, limit: usize, r0: Run, v: &mut [f64], d: &mut [f64], e: &mut [f64]) -> Run
     requires { ⌜ (limit ≤ 60) × Ready n r0 × Sized n (now v) (now d) (now e) ⌝ }
     ensures { λ q. ⌜ (q, now (v .exit), now (d .exit), now (e .exit)) ≡ iterated n limit (r0, now (v .entry), now (d .entry), now (e .entry)) ⌝ }
 {
@@ -101,7 +102,7 @@ pub fn iterate(n: usize, limit: usize, r0: Run, v: &mut [f64], d: &mut [f64], e:
 }
 
 // What the passes at l came to.
-pub fn close(r: Run, d: &mut [f64], e: &mut [f64]) -> Run
+fn close(r: Run, d: &mut [f64], e: &mut [f64]) -> Run
     requires { ⌜ (r .l < length (now d)) × (r .l < length (now e)) ⌝ }
     ensures { λ q. ⌜ ((v : Vec) → (q, v, now (d .exit), now (e .exit)) ≡ closed (r, v, now (d .entry), now (e .entry))) ⌝ }
 {
@@ -118,7 +119,7 @@ pub fn close(r: Run, d: &mut [f64], e: &mut [f64]) -> Run
 }
 
 // r with another reason to stop.
-pub fn stopping(r: Run, stop: usize) -> Run
+fn stopping(r: Run, stop: usize) -> Run
     ensures { λ q. ⌜ q ≡ stopping r stop ⌝ }
 {
     Run {
@@ -133,7 +134,7 @@ pub fn stopping(r: Run, stop: usize) -> Run
 }
 
 // The run at l, unless it has stopped before.
-pub fn turn(
+fn turn(
     n: usize,
     limit: usize,
     l: usize,
@@ -154,7 +155,7 @@ pub fn turn(
 }
 
 // The run over all l.
-pub fn run(n: usize, limit: usize, v: &mut [f64], d: &mut [f64], e: &mut [f64]) -> Run
+fn run(n: usize, limit: usize, v: &mut [f64], d: &mut [f64], e: &mut [f64]) -> Run
     requires { ⌜ (n ≤ 256) × (limit ≤ 60) × Sized n (now v) (now d) (now e) ⌝ }
     ensures { λ q. ⌜ (q, now (v .exit), now (d .exit), now (e .exit)) ≡ run n limit (fresh, now (v .entry), now (d .entry), now (e .entry)) ⌝ }
 {
@@ -173,7 +174,7 @@ pub fn run(n: usize, limit: usize, v: &mut [f64], d: &mut [f64], e: &mut [f64]) 
     r
 }
 
-pub fn better(d: &[f64], j: usize, b: Best) -> Best
+fn better(d: &[f64], j: usize, b: Best) -> Best
     requires { ⌜ j < length (now d) ⌝ }
     ensures { λ r. ⌜ r ≡ better (now (d .entry)) j b ⌝ }
 {
@@ -182,9 +183,9 @@ pub fn better(d: &[f64], j: usize, b: Best) -> Best
 }
 
 // The least of d from i on.
-pub fn least(n: usize, i: usize, d: &[f64]) -> Best
+fn least_from(n: usize, i: usize, d: &[f64]) -> Best
     requires { ⌜ (i < n) × (length (now d) ≡ n) ⌝ }
-    ensures { λ r. ⌜ r ≡ least n i (now (d .entry)) ⌝ }
+    ensures { λ r. ⌜ r ≡ leastFrom n i (now (d .entry)) ⌝ }
 {
     let p = at1(d, i);
     let mut b = Best { k: i, p };
@@ -195,7 +196,7 @@ pub fn least(n: usize, i: usize, d: &[f64]) -> Best
 }
 
 // Columns i and k of v change places.
-pub fn swap(n: usize, i: usize, k: usize, v: &mut [f64])
+fn swap(n: usize, i: usize, k: usize, v: &mut [f64])
     requires { ⌜ (i < n) × (k < n) × (length (now v) ≡ n * n) ⌝ }
     ensures { λ _. ⌜ now (v .exit) ≡ swapped n i k (now (v .entry)) ⌝ }
 {
@@ -208,11 +209,11 @@ pub fn swap(n: usize, i: usize, k: usize, v: &mut [f64])
 }
 
 // The least value from i on comes to i, and its column with it.
-pub fn sort_at(n: usize, i: usize, v: &mut [f64], d: &mut [f64])
+fn sort_at(n: usize, i: usize, v: &mut [f64], d: &mut [f64])
     requires { ⌜ (i < n) × (length (now v) ≡ n * n) × (length (now d) ≡ n) ⌝ }
     ensures { λ _. ⌜ (now (v .exit), now (d .exit)) ≡ sortStep n i (now (v .entry), now (d .entry)) ⌝ }
 {
-    let b = least(n, i, d);
+    let b = least_from(n, i, d);
     let k = b.k;
     if k == i {
         return;
@@ -223,7 +224,7 @@ pub fn sort_at(n: usize, i: usize, v: &mut [f64], d: &mut [f64])
 }
 
 // The values in ascending order, the columns moving with them.
-pub fn sort(n: usize, v: &mut [f64], d: &mut [f64])
+fn sort(n: usize, v: &mut [f64], d: &mut [f64])
     requires { ⌜ (0 < n) × (length (now v) ≡ n * n) × (length (now d) ≡ n) ⌝ }
     ensures { λ _. ⌜ (now (v .exit), now (d .exit)) ≡ sorted n (now (v .entry), now (d .entry)) ⌝ }
 {
@@ -233,8 +234,8 @@ pub fn sort(n: usize, v: &mut [f64], d: &mut [f64])
 }
 
 // Mark 2.
-pub fn mark2(n: usize, d: &[f64], v: &[f64]) -> bool
-    ensures { λ r. ⌜ r ≡ mark2 n (now (d .entry)) (now (v .entry)) ⌝ }
+fn mark2(n: usize, v: &[f64], d: &[f64]) -> bool
+    ensures { λ r. ⌜ r ≡ mark2 n (now (v .entry)) (now (d .entry)) ⌝ }
 {
     if is_bad(first_bad(d)) {
         return true;
@@ -243,37 +244,21 @@ pub fn mark2(n: usize, d: &[f64], v: &[f64]) -> bool
 }
 
 // The answer of a run, and the sort where it is done.
-pub fn finish(n: usize, r: Run, v: &mut [f64], d: &mut [f64]) -> Answer
+fn finish(n: usize, r: Run, v: &mut [f64], d: &mut [f64]) -> Answer
     requires { ⌜ (0 < n) × (length (now v) ≡ n * n) × (length (now d) ≡ n) ⌝ }
     ensures { λ a. ⌜ ((e : Vec) → (a, now (v .exit), now (d .exit), e) ≡ finished n (r, now (v .entry), now (d .entry), e)) ⌝ }
 {
     if r.stop == 8 {
-        return Answer {
-            answer: 8,
-            place: 1,
-            count: r.count,
-        };
+        return answered(8, 1, r.count);
     }
     if r.stop == 9 {
-        return Answer {
-            answer: 9,
-            place: r.l,
-            count: r.count,
-        };
+        return answered(9, r.l, r.count);
     }
-    if mark2(n, d, v) {
-        return Answer {
-            answer: 8,
-            place: 2,
-            count: r.count,
-        };
+    if mark2(n, v, d) {
+        return answered(8, 2, r.count);
     }
     sort(n, v, d);
-    Answer {
-        answer: 0,
-        place: 0,
-        count: r.count,
-    }
+    done(r.count)
 }
 
 pub fn tql2(n: usize, limit: usize, v: &mut [f64], d: &mut [f64], e: &mut [f64]) -> Answer

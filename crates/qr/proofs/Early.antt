@@ -6,8 +6,9 @@ use native.Mathlib.Numerals.{add-one}
 use native.Mathlib.Omega.{arith}
 use borrow.Author.Tests.{ltb-false, eqb-true}
 use lib.Dec.{ltb, eqb}
-use Rattle.grid.specs.Loop.{upto, next}
-use Rattle.answers.specs.Answers.{refused, pass, lengths}
+use Rattle.grid.specs.Loop.{upto}
+use Rattle.grid.specs.LoopLaws.{next}
+use Rattle.answers.specs.Answers.{refused, done, lengths}
 use Rattle.answers.specs.declared.Answer.{Answer}
 use Rattle.qr.specs.Qr.{checks}
 
@@ -26,7 +27,7 @@ unfolding checks lengths
 sized m k a x e h = go (ltb 256 m) refl (ltb 256 k) (eqb a (m * k)) refl (eqb x (m * k)) refl (ap (λ (b : Answer). b .answer) (sym e) ∙ h)
   where
     go : (p : Bool) → ltb 256 m ≡ p → (q : Bool) (b : Bool) → eqb a (m * k) ≡ b → (c : Bool) → eqb x (m * k) ≡ c
-        → cond (p || q) (refused 1 0) (cond b (cond c pass (refused 6 1)) (refused 6 0)) .answer ≡ 0 → (m ≤ 256) × (a ≡ m * k) × (x ≡ m * k)
+        → cond (p || q) (refused 1 0) (cond b (cond c (done 0) (refused 6 1)) (refused 6 0)) .answer ≡ 0 → (m ≤ 256) × (a ≡ m * k) × (x ≡ m * k)
     go false e false true f true g h = (ltb-false 256 m e, eqb-true a (m * k) f, eqb-true x (m * k) g)
     go true e q b f c g h = absurd (omega arith)
     go false e true b f c g h = absurd (omega arith)

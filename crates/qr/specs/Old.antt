@@ -5,28 +5,22 @@ use Prim.Native.Nat.{ℕ, _≤_}
 use native.Mathlib.Omega.{arith}
 use lib.Dec.{ltb}
 use lib.ListN.{length}
-use Rattle.grid.specs.Real.{Vec, zeros}
+use Rattle.grid.specs.Real.{Vec}
 use Rattle.leaves.specs.Scan.{firstBad}
-use Rattle.leaves.specs.declared.Bad.{Bad}
-use Rattle.leaves.specs.declared.Bad.the-variants.{At, Nowhere}
-use Rattle.answers.specs.Answers.{refused, passed}
+use Rattle.answers.specs.Answers.{passed, unlessBad}
 use Rattle.answers.specs.Early.{Early}
-use Rattle.answers.specs.OutcomeLaws.{lengths-few, refuse-few, old}
+use Rattle.answers.specs.OutcomeLaws.{lengths-few, refuse-few, same-bad, old}
 use Rattle.answers.specs.declared.Answer.{Answer}
-use Rattle.qr.specs.Qr.{checks, unlessBad, columns, qrQ}
+use Rattle.qr.specs.Qr.{checks, columns, qrQ}
 
 qr-checks-few : (m k a x : ℕ) → checks m k a x .answer ≤ 6
 unfolding checks
 qr-checks-few m k a x = refuse-few (ltb 256 m || ltb 256 k) 1 0 _ (omega arith) (lengths-few a _ x _ 0 0)
-
-same-bad : (b : Bad) (x y : Vec) (o : Answer × Vec) → length x ≡ length y → unlessBad b x o ≡ unlessBad b y o
-same-bad (At i) x y o l = ap (λ (n : ℕ). (refused 7 i, zeros n)) l
-same-bad Nowhere x y o l = refl
 
 pub qr-q-old-contents : (m k : ℕ) (a x y : Vec) → length x ≡ length y → (Early (qrQ m k a x .0) → ⊥) → qrQ m k a x ≡ qrQ m k a y
 unfolding qrQ
 qr-q-old-contents m k a x y l h =
     old (Answer × Vec) (λ x. x .0) (checks m k (length a) (length x)) _ (unlessBad (firstBad a) y (columns m k a)) _ (checks m k (length a) (length x), y)
     (qr-checks-few m k (length a) (length x))
-    (λ t. same-bad (firstBad a) x y _ l) refl refl h
+    (λ t. same-bad (firstBad a) x y _ _ l refl) refl refl h
     ∙ ap (λ (j : ℕ). cond (passed (checks m k (length a) j)) (unlessBad (firstBad a) y (columns m k a)) (checks m k (length a) j, y)) l

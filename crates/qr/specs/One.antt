@@ -1,4 +1,4 @@
--- The promise of `qr_q` determines the outcome: two that satisfy it are the same.
+-- The promise of `qr_q` determines the outcome: two that satisfy it are the same. Laws only.
 use mathlib.Core.Path.{_≡_, sym, _∙_}
 use Prim.Native.Nat.{ℕ}
 use Rattle.grid.specs.Real.{Vec}

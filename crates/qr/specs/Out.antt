@@ -9,19 +9,22 @@ use borrow.Author.Tests.{eqb-true}
 use lib.Ieee.{Float, nan, ofBits, lt}
 use lib.ListN.{length, set, length-set, length-replicate, getD-replicate}
 use lib.Seq.{getD-set-same, getD-set-other}
-use Rattle.grid.specs.Loop.{upto, upto-more, upto-keeps}
+use Rattle.grid.specs.Loop.{upto}
+use Rattle.grid.specs.LoopLaws.{upto-more, upto-keeps}
 use Rattle.grid.specs.Real.{Vec, at, zero64, epsilon, zeros, _⊕_, _⊗_, _⊘_}
-use Rattle.grid.specs.Cell.{upto-long}
-use Rattle.grid.specs.Table.{table, length-table, at-table, each}
+use Rattle.grid.specs.CellLaws.{upto-long}
+use Rattle.grid.specs.Table.{table}
+use Rattle.grid.specs.TableLaws.{length-table, at-table, each}
 use Rattle.leaves.specs.Leaf.{isFinite}
-use Rattle.leaves.specs.Scan.{firstBad, firstBad-none}
+use Rattle.leaves.specs.Scan.{firstBad}
+use Rattle.leaves.specs.ScanLaws.{firstBad-none}
 use Rattle.leaves.specs.Finite.{Finite}
 use Rattle.leaves.specs.declared.Bad.{Bad}
 use Rattle.leaves.specs.declared.Bad.the-variants.{At, Nowhere}
-use Rattle.answers.specs.Answers.{done, passed, emptied}
+use Rattle.answers.specs.Answers.{done, passed, emptied, unlessBad}
 use Rattle.answers.specs.OutcomeLaws.{Good, refuses, check-good}
 use Rattle.answers.specs.declared.Answer.{Answer}
-use Rattle.qr.specs.Qr.{columnOf, dotStep, dot, lessStep, lessened, passStep, pass, passes, norm, overStep, over, normalised, putStep, putColumn, finished, column, columnStep, columns, checks, unlessBad, qrQ}
+use Rattle.qr.specs.Qr.{columnOf, dotStep, dot, lessStep, lessened, passStep, pass, passes, norm, overStep, over, normalised, putStep, putColumn, finished, column, columnStep, columns, checks, qrQ}
 use Rattle.qr.specs.Quotient.{add-finite, root-finite, quotient}
 
 -- ---- lists

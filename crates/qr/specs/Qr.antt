@@ -1,5 +1,5 @@
--- `qr_q`, operation for operation, with the checks in the scope's order: modified Gram-Schmidt with one pass more for what the first left. q has m rows and k
--- columns, row by row; a column that is worked on is a vector of its own.
+-- `qr_q`, operation for operation, with the checks in the scope's order. Definitions only.
+-- Modified Gram-Schmidt with one pass more for what the first left. q has m rows and k columns, row by row; a column that is worked on is a vector of its own.
 use mathlib.Core.Bool.{cond, _||_}
 use Prim.Native.Nat.{ℕ, _*_}
 use lib.Dec.{ltb}
@@ -9,13 +9,11 @@ use Rattle.grid.specs.Loop.{upto}
 use Rattle.grid.specs.Real.{Vec, zero64, epsilon, zeros, at, _⊕_, _⊖_, _⊗_, _⊘_}
 use Rattle.grid.specs.Cell.{entry, putEntry}
 use Rattle.grid.specs.Table.{table}
-use Rattle.answers.specs.Answers.{refused, done, passed, lengths, emptied}
+use Rattle.answers.specs.Answers.{refused, done, passed, lengths, emptied, unlessBad}
 use Rattle.answers.specs.declared.Answer.{Answer}
 use Rattle.leaves.specs.Leaf.{isFinite}
 use Rattle.leaves.specs.Root.{root}
 use Rattle.leaves.specs.Scan.{firstBad}
-use Rattle.leaves.specs.declared.Bad.{Bad}
-use Rattle.leaves.specs.declared.Bad.the-variants.{At, Nowhere}
 
 -- ---- one column
 
@@ -92,11 +90,6 @@ unfoldable pub checks : ℕ → ℕ → ℕ → ℕ → Answer
 checks m k a x =
     cond (ltb 256 m || ltb 256 k) (refused 1 0)
     (lengths a (m * k) x (m * k) 0 0)
-
--- 7 with the number's index, or else the rest
-abbrev pub unlessBad : Bad → Vec → Answer × Vec → Answer × Vec
-unlessBad (At i) x rest = emptied 7 i x
-unlessBad Nowhere x rest = rest
 
 unfoldable pub qrQ : ℕ → ℕ → Vec → Vec → Answer × Vec
 qrQ m k a x =

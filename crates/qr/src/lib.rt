@@ -2,12 +2,16 @@
 ghost use mathlib.Core.Path.{_≡_};
 ghost use Prim.Native.Nat.{_*_, _<_, _≤_};
 ghost use lib.ListN.{length};
-ghost use Rattle.answers.specs.Answers.{answered};
+ghost use Rattle.answers.specs.Answers.{unlessBad};
 ghost use Rattle.leaves.specs.Scan.{firstBad};
-ghost use Rattle.qr.specs.Qr.{columnOf, dot, lessened, pass, passes, norm, over, normalised, putColumn, finished, column, columns, checks, unlessBad, qrQ};
+ghost use Rattle.qr.specs.Qr.{columnOf, dot, lessened, pass, passes, norm, over, normalised, putColumn, finished, column, columns, checks, qrQ};
 use answers::Answer;
+use answers::done;
 use answers::lengths;
 use answers::refuse;
+use answers::refused;
+use grid::EPSILON;
+use grid::LARGEST;
 use grid::at1;
 use grid::copy;
 use grid::entry;
@@ -18,8 +22,6 @@ use leaves::Bad;
 use leaves::first_bad;
 use leaves::is_finite;
 use leaves::root;
-
-const EPSILON: f64 = 1.0 / 4503599627370496.0;
 
 // Column j of q.
 fn column_of(m: usize, k: usize, q: &[f64], j: usize, c: &mut [f64])
@@ -109,16 +111,6 @@ fn put_column(m: usize, k: usize, j: usize, c: &[f64], q: &mut [f64])
     }
 }
 
-fn told(answer: usize, place: usize) -> Answer
-    ensures { λ r. ⌜ r ≡ answered answer place 0 ⌝ }
-{
-    Answer {
-        answer,
-        place,
-        count: 0,
-    }
-}
-
 // c, whose norm is `by`, becomes column j of q.
 fn finish(m: usize, k: usize, j: usize, by: f64, c: &mut [f64], q: &mut [f64]) -> Answer
     requires { ⌜ (j < k) × (length (now q) ≡ m * k) × (length (now c) ≡ m) ⌝ }
@@ -127,7 +119,7 @@ fn finish(m: usize, k: usize, j: usize, by: f64, c: &mut [f64], q: &mut [f64]) -
     if is_finite(by) {
         normalise(m, by, c);
         put_column(m, k, j, c, q);
-        return told(0, 0);
+        return done(0);
     }
     refuse(8, j, q)
 }
@@ -145,7 +137,7 @@ fn columns(m: usize, k: usize, b: &mut [f64], c: &mut [f64], q: &mut [f64]) -> A
     requires { ⌜ (length (now q) ≡ m * k) × (length (now b) ≡ m) × (length (now c) ≡ m) ⌝ }
     ensures { λ r. ⌜ (r, now (q .exit)) ≡ columns m k (now (q .entry)) ⌝ }
 {
-    let mut r = told(0, 0);
+    let mut r = done(0);
     for j in 0..k {
         r = column(m, k, j, b, c, q);
         if r.answer != 0 {
@@ -158,11 +150,11 @@ fn columns(m: usize, k: usize, b: &mut [f64], c: &mut [f64], q: &mut [f64]) -> A
 fn checks(m: usize, k: usize, a: usize, x: usize) -> Answer
     ensures { λ r. ⌜ r ≡ checks m k a x ⌝ }
 {
-    if m > 256 {
-        return told(1, 0);
+    if m > LARGEST {
+        return refused(1, 0);
     }
-    if k > 256 {
-        return told(1, 0);
+    if k > LARGEST {
+        return refused(1, 0);
     }
     lengths(a, m * k, x, m * k, 0, 0)
 }
@@ -172,8 +164,8 @@ fn run(m: usize, k: usize, a: &[f64], x: &mut [f64]) -> Answer
     requires { ⌜ (m ≤ 256) × (length (now a) ≡ m * k) × (length (now x) ≡ m * k) ⌝ }
     ensures { λ r. ⌜ (r, now (x .exit)) ≡ columns m k (now (a .entry)) ⌝ }
 {
-    let mut b = [0.0f64; 256];
-    let mut c = [0.0f64; 256];
+    let mut b = [0.0f64; LARGEST];
+    let mut c = [0.0f64; LARGEST];
     copy(a, x);
     columns(m, k, &mut b[..m], &mut c[..m], x)
 }

@@ -8,12 +8,14 @@ use lib.Dec.{ltb, eqb}
 use lib.ListN.{length}
 use Rattle.grid.specs.Real.{Vec}
 use Rattle.grid.specs.Loop.{first}
-use Rattle.answers.specs.Answers.{refused, pass, lengths, least, present, decompositionLength, least-le, product-le}
+use Rattle.answers.specs.Answers.{refused, done, lengths, least, present, decompositionLength}
+use Rattle.answers.specs.AnswersLaws.{least-le, product-le}
 use Rattle.answers.specs.declared.Answer.{Answer}
 use Rattle.leaves.specs.Scan.{notFinite, firstBad}
 use Rattle.leaves.specs.declared.Bad.{Bad}
 use Rattle.leaves.specs.declared.Bad.the-variants.{At, Nowhere}
-use Rattle.solve.specs.Solve.{parts, solveChecks, inverseChecks, Sized}
+use Rattle.solve.specs.Solve.{parts, solveChecks, inverseChecks}
+use Rattle.solve.specs.SolveLaws.{Sized}
 
 -- the answer is that of the checks
 pub told : {r s : Answer} → r ≡ s → r .answer ≡ 0 → s .answer ≡ 0
@@ -24,10 +26,10 @@ abbrev chain : Bool → Bool → Bool → Answer → Answer
 chain a b c later = cond a (refused 1 0) (cond b (refused 3 0) (cond c (refused 4 0) later))
 
 -- where the first three refuse, the later checks do not count
-pub stops : (m n u vt : ℕ) (later : Answer) {r : Answer} → r ≡ parts m n u vt pass → (r .answer ≡ 0 → ⊥) → r ≡ parts m n u vt later
+pub stops : (m n u vt : ℕ) (later : Answer) {r : Answer} → r ≡ parts m n u vt (done 0) → (r .answer ≡ 0 → ⊥) → r ≡ parts m n u vt later
 stops m n u vt later e h = e ∙ go (ltb 256 m || ltb 256 n) (eqb u 0) (eqb vt 0) (λ z. h (ap (λ (a : Answer). a .answer) e ∙ z))
   where
-    go : (a b c : Bool) → (chain a b c pass .answer ≡ 0 → ⊥) → chain a b c pass ≡ chain a b c later
+    go : (a b c : Bool) → (chain a b c (done 0) .answer ≡ 0 → ⊥) → chain a b c (done 0) ≡ chain a b c later
     go true b c h = refl
     go false true c h = refl
     go false false true h = refl
@@ -59,7 +61,7 @@ two-right : (a wa b wb : ℕ) → lengths a wa b wb 0 0 .answer ≡ 0 → (a ≡
 unfolding lengths
 two-right a wa b wb = go (eqb a wa) refl (eqb b wb) refl
   where
-    go : (p : Bool) → eqb a wa ≡ p → (q : Bool) → eqb b wb ≡ q → cond p (cond q pass (refused 6 1)) (refused 6 0) .answer ≡ 0 → (a ≡ wa) × (b ≡ wb)
+    go : (p : Bool) → eqb a wa ≡ p → (q : Bool) → eqb b wb ≡ q → cond p (cond q (done 0) (refused 6 1)) (refused 6 0) .answer ≡ 0 → (a ≡ wa) × (b ≡ wb)
     go true e true f h = (eqb-true a wa e, eqb-true b wb f)
     go true e false f h = absurd (omega arith)
     go false e q f h = absurd (omega arith)

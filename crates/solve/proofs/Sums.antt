@@ -2,12 +2,14 @@
 use mathlib.Core.Path.{_≡_, ap, _∙_}
 use Prim.Native.Nat.{ℕ}
 use lib.Ieee.{Float}
-use Rattle.grid.specs.Loop.{upto-same}
+use Rattle.grid.specs.LoopLaws.{upto-same}
 use Rattle.grid.specs.Real.{Vec, at, zero64, _⊕_, _⊗_}
 use Rattle.grid.specs.Cell.{entry}
-use Rattle.grid.specs.Table.{table, table-same, at-table}
+use Rattle.grid.specs.Table.{table}
+use Rattle.grid.specs.TableLaws.{table-same, at-table}
 use Rattle.answers.specs.Answers.{least}
-use Rattle.solve.specs.Solve.{valuesOf, uOf, vtOf, columnSum, coefficient, solution, product, dot, pinvSum, pinvRow}
+use Rattle.solve.specs.Solve.{valuesOf, uOf, vtOf, columnSum, coefficient, solution, pinvSum, pinvRow}
+use Rattle.solve.specs.SolveLaws.{product, dot}
 
 -- p holds the sums of the right side, c the coefficients made of them, x the sums by c
 pub solution-by : (m n r : ℕ) (tol : Float) (d b : Vec) {p c x : Vec} → r ≡ least m n → p ≡ table (columnSum m r (uOf m r d) b) r

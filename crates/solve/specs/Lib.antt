@@ -1,5 +1,6 @@
 -- What `solve` and `pseudo_inverse` come back with.
 pub mod Solve
+pub mod SolveLaws
 pub mod One
 pub mod Out
 pub mod Old

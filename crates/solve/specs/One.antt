@@ -1,4 +1,4 @@
--- The promises of `solve` and `pseudo_inverse` determine the outcome: two that satisfy one are the same.
+-- The promises of `solve` and `pseudo_inverse` determine the outcome: two that satisfy one are the same. Laws only.
 use mathlib.Core.Path.{_≡_, sym, _∙_}
 use Prim.Native.Nat.{ℕ}
 use lib.Ieee.{Float}

@@ -6,16 +6,14 @@ use native.Mathlib.Omega.{arith}
 use lib.Ieee.{Float}
 use lib.ListN.{length}
 use Rattle.grid.specs.Real.{Vec}
-use Rattle.grid.specs.Table.{length-table, length-rows}
+use Rattle.grid.specs.TableLaws.{length-table, length-rows}
 use Rattle.leaves.specs.Scan.{firstBad, isBad}
 use Rattle.leaves.specs.Finite.{Finite}
 use Rattle.leaves.specs.FiniteLaws.{scan-finite}
-use Rattle.leaves.specs.declared.Bad.{Bad}
-use Rattle.leaves.specs.declared.Bad.the-variants.{At, Nowhere}
-use Rattle.answers.specs.Answers.{done, emptied}
-use Rattle.answers.specs.OutcomeLaws.{Good, refuses, check-good}
+use Rattle.answers.specs.Answers.{done, emptied, behind}
+use Rattle.answers.specs.OutcomeLaws.{Good, refuses, unless-good, check-good}
 use Rattle.answers.specs.declared.Answer.{Answer}
-use Rattle.solve.specs.Solve.{unlessBad, marked, solution, inverted, solveChecks, inverseChecks, solve, pseudoInverse}
+use Rattle.solve.specs.Solve.{marked, solution, inverted, solveChecks, inverseChecks, solve, pseudoInverse}
 
 marked-good : (n : ℕ) (x : Vec) → length x ≡ n → Good n (marked x)
 unfolding marked
@@ -25,15 +23,11 @@ marked-good n x l = go (isBad (firstBad x)) refl
     go true e = refuses n _ _ (λ z. omega arith)
     go false e = record { finite = λ z. scan-finite x e; long = λ z. l }
 
-unless-good : (n : ℕ) (b : Bad) (k : ℕ) (x : Vec) (o : Answer × Vec) → Good n o → Good n (unlessBad b k x o)
-unless-good n (At i) k x o g = refuses n _ _ (λ z. omega arith)
-unless-good n Nowhere k x o g = g
-
 pub solve-good : (m n u vt : ℕ) (tol : Float) (d b x : Vec) → Good n (solve m n u vt tol d b x)
 unfolding solve solution
 solve-good m n u vt tol d b x =
     check-good n (solveChecks m n u vt (length d) (length b) (length x)) x _
-    (unless-good n (firstBad d) 0 x _ (unless-good n (firstBad b) (length d) x _ (marked-good n (solution m n tol d b) (length-table _ n))))
+    (unless-good n (firstBad d) x _ (unless-good n (behind (length d) (firstBad b)) x _ (marked-good n (solution m n tol d b) (length-table _ n))))
 
 -- **finite-out**
 pub solve-finite-out : (m n u vt : ℕ) (tol : Float) (d b x : Vec) → solve m n u vt tol d b x .0 .answer ≡ 0 → Finite (solve m n u vt tol d b x .1)
@@ -43,7 +37,7 @@ pub pseudo-inverse-good : (m n u vt : ℕ) (tol : Float) (d x : Vec) → Good (n
 unfolding pseudoInverse inverted
 pseudo-inverse-good m n u vt tol d x =
     check-good (n * m) (inverseChecks m n u vt (length d) (length x)) x _
-    (unless-good (n * m) (firstBad d) 0 x _ (marked-good (n * m) (inverted m n tol d) (length-rows _ m n (λ k. length-table _ m))))
+    (unless-good (n * m) (firstBad d) x _ (marked-good (n * m) (inverted m n tol d) (length-rows _ m n (λ k. length-table _ m))))
 
 pub pseudo-inverse-finite-out : (m n u vt : ℕ) (tol : Float) (d x : Vec) → pseudoInverse m n u vt tol d x .0 .answer ≡ 0 → Finite (pseudoInverse m n u vt tol d x .1)
 pseudo-inverse-finite-out m n u vt tol d x = pseudo-inverse-good m n u vt tol d x .finite

@@ -1,20 +1,17 @@
--- `Svd::solve` and `Svd::pseudo_inverse`, operation for operation, with the checks in the scope's order. A decomposition is r values, r the smaller of m
--- and n, then U row by row (m by r), then V^T row by row (r by n).
-use mathlib.Core.Path.{_≡_}
+-- `Svd::solve` and `Svd::pseudo_inverse`, operation for operation, with the checks in the scope's order. Definitions only.
+-- A decomposition is r values, r the smaller of m and n, then U row by row (m by r), then V^T row by row (r by n).
 use mathlib.Core.Bool.{Bool, cond, not, _||_}
-use Prim.Native.Nat.{ℕ, _+_, _*_, _≤_}
+use Prim.Native.Nat.{ℕ, _+_, _*_}
 use lib.Dec.{ltb, eqb}
 use lib.Ieee.{Float, lt}
-use lib.ListN.{length, take, set}
+use lib.ListN.{length, take}
 use Rattle.grid.specs.Loop.{upto}
 use Rattle.grid.specs.Real.{Vec, zero64, one64, zeros, at, _⊕_, _⊗_, _⊘_}
 use Rattle.grid.specs.Cell.{entry}
 use Rattle.grid.specs.Table.{table, rows, part}
-use Rattle.answers.specs.Answers.{refused, done, passed, lengths, least, decompositionLength, emptied}
+use Rattle.answers.specs.Answers.{refused, done, passed, lengths, least, decompositionLength, emptied, unlessBad, behind}
 use Rattle.answers.specs.declared.Answer.{Answer}
 use Rattle.leaves.specs.Scan.{isBad, firstBad}
-use Rattle.leaves.specs.declared.Bad.{Bad}
-use Rattle.leaves.specs.declared.Bad.the-variants.{At, Nowhere}
 
 -- ---- the parts of a decomposition
 
@@ -46,13 +43,6 @@ solution m n tol d b =
     let c = table (λ k. coefficient tol (at (valuesOf r d) k) (columnSum m r (uOf m r d) b k)) r in
     table (columnSum r n (vtOf m r d) c) n
 
--- the sums are worked out side by side: row i by v[i] is added to all of them
-abbrev pub addStep : ℕ → Vec → ℕ → Float → ℕ → Vec → Vec
-addStep cols a i by j acc = set acc j (at acc j ⊕ entry a cols i j ⊗ by)
-
-abbrev pub coefficientStep : Float → Vec → ℕ → Vec → Vec
-coefficientStep tol s k c = set c k (coefficient tol (at s k) (at c k))
-
 -- ---- pseudo_inverse: A^+ = V * sigma^+ * U^T
 
 -- sinv[k] for the value sv
@@ -75,16 +65,6 @@ inverted m n tol d =
     let r = least m n in
     rows (pinvRow m r n tol (valuesOf r d) (uOf m r d) (vtOf m r d)) n
 
--- the same with what is by V^T worked out once for row j: w[k] = v_t[k, j] * sinv[k]
-abbrev pub product : ℕ → Float → Vec → Vec → ℕ → ℕ → Float
-product n tol s vt j k = entry vt n k j ⊗ inverse tol (at s k)
-
-abbrev pub dotStep : ℕ → Vec → Vec → ℕ → ℕ → Float → Float
-dotStep r w u i k acc = acc ⊕ at w k ⊗ entry u r i k
-
-unfoldable pub dot : ℕ → Vec → Vec → ℕ → Float
-dot r w u i = upto (dotStep r w u i) 0 r zero64
-
 -- ---- the checks, on lengths
 
 -- 1, 3 and 4, or else what the later checks say
@@ -106,22 +86,11 @@ inverseChecks m n u vt d x =
     parts m n u vt
     (lengths d (decompositionLength m n u vt) x (n * m) 0 0)
 
--- what the checks leave: m and n are small, and the decomposition, of length l, is whole
-pub record Sized (m n l : ℕ) : Type 0 where
-  pub few : m ≤ 256
-  pub narrow : n ≤ 256
-  pub whole : l ≡ least m n + m * least m n + least m n * n
-
 -- ---- the outcomes: the three numbers, and the answer array x afterwards
 
--- 7 with the number's index, behind so many others, or else the rest
-abbrev pub unlessBad : Bad → ℕ → Vec → Answer × Vec → Answer × Vec
-unlessBad (At i) before x rest = emptied 7 (before + i) x
-unlessBad Nowhere before x rest = rest
-
--- the decomposition d, then the right side b
+-- refusal 7 for the decomposition d, then for the right side b, whose indices are counted behind those of d
 abbrev pub unlessEither : Vec → Vec → Vec → Answer × Vec → Answer × Vec
-unlessEither d b x rest = unlessBad (firstBad d) 0 x (unlessBad (firstBad b) (length d) x rest)
+unlessEither d b x rest = unlessBad (firstBad d) x (unlessBad (behind (length d) (firstBad b)) x rest)
 
 -- mark 2
 unfoldable pub marked : Vec → Answer × Vec
@@ -138,5 +107,5 @@ unfoldable pub pseudoInverse : ℕ → ℕ → ℕ → ℕ → Float → Vec →
 pseudoInverse m n u vt tol d x =
     let check = inverseChecks m n u vt (length d) (length x) in
     cond (passed check)
-    (unlessBad (firstBad d) 0 x (marked (inverted m n tol d)))
+    (unlessBad (firstBad d) x (marked (inverted m n tol d)))
     (check, x)

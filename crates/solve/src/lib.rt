@@ -6,14 +6,18 @@ ghost use lib.ListN.{length};
 ghost use Rattle.grid.specs.Real.{at, _⊕_, _⊗_};
 ghost use Rattle.grid.specs.Cell.{entry};
 ghost use Rattle.grid.specs.Table.{table, rows};
-ghost use Rattle.answers.specs.Answers.{refused, pass, least};
+ghost use Rattle.answers.specs.Answers.{done, least, unlessBad, behind};
 ghost use Rattle.leaves.specs.Scan.{firstBad};
-ghost use Rattle.solve.specs.Solve.{columnSum, coefficient, solution, inverse, product, dot, pinvRow, inverted, parts, solveChecks, inverseChecks, Sized, unlessBad, unlessEither, marked, solve, pseudoInverse};
+ghost use Rattle.solve.specs.Solve.{columnSum, coefficient, solution, inverse, pinvRow, inverted, parts, solveChecks, inverseChecks, unlessEither, marked, solve, pseudoInverse};
+ghost use Rattle.solve.specs.SolveLaws.{product, dot, Sized};
 use answers::Answer;
 use answers::decomposition_length;
+use answers::done;
 use answers::least;
 use answers::lengths;
 use answers::refuse;
+use answers::refused;
+use grid::LARGEST;
 use grid::at1;
 use grid::entry;
 use grid::fill;
@@ -169,31 +173,21 @@ fn inverted(m: usize, n: usize, r: usize, tolerance: f64, d: &[f64], w: &mut [f6
 
 // Refusals 1, 3 and 4.
 fn parts(m: usize, n: usize, has_u: usize, has_vt: usize) -> Answer
-    ensures { λ r. ⌜ r ≡ parts m n «has_u» «has_vt» pass ⌝ }
+    ensures { λ r. ⌜ r ≡ parts m n «has_u» «has_vt» (done 0) ⌝ }
 {
-    if m > 256 {
-        return refusal(1);
+    if m > LARGEST {
+        return refused(1, 0);
     }
-    if n > 256 {
-        return refusal(1);
+    if n > LARGEST {
+        return refused(1, 0);
     }
     if has_u == 0 {
-        return refusal(3);
+        return refused(3, 0);
     }
     if has_vt == 0 {
-        return refusal(4);
+        return refused(4, 0);
     }
-    refusal(0)
-}
-
-fn refusal(answer: usize) -> Answer
-    ensures { λ r. ⌜ r ≡ refused answer 0 ⌝ }
-{
-    Answer {
-        answer,
-        place: 0,
-        count: 0,
-    }
+    done(0)
 }
 
 fn solve_checks(
@@ -212,7 +206,7 @@ fn solve_checks(
         return first;
     }
     if b != m {
-        return refusal(5);
+        return refused(5, 0);
     }
     let want = decomposition_length(m, n, has_u, has_vt);
     lengths(d, want, x, n, 0, 0)
@@ -237,7 +231,7 @@ fn marked(x: &mut [f64]) -> Answer
     if is_bad(bad) {
         return refuse(8, 2, x);
     }
-    refusal(0)
+    done(0)
 }
 
 fn solve_marked(m: usize, n: usize, tolerance: f64, d: &[f64], b: &[f64], x: &mut [f64]) -> Answer
@@ -245,7 +239,7 @@ fn solve_marked(m: usize, n: usize, tolerance: f64, d: &[f64], b: &[f64], x: &mu
     ensures { λ r. ⌜ (r, now (x .exit)) ≡ marked (solution m n tolerance (now (d .entry)) (now (b .entry))) ⌝ }
 {
     let r = least(m, n);
-    let mut c = [0.0f64; 256];
+    let mut c = [0.0f64; LARGEST];
     solution(m, n, r, tolerance, d, b, &mut c[..r], x);
     marked(x)
 }
@@ -253,7 +247,7 @@ fn solve_marked(m: usize, n: usize, tolerance: f64, d: &[f64], b: &[f64], x: &mu
 // The right side is scanned, its indices behind those of the decomposition.
 fn solve_right(m: usize, n: usize, tolerance: f64, d: &[f64], b: &[f64], x: &mut [f64]) -> Answer
     requires { ⌜ Sized m n (length (now d)) × (length (now b) ≡ m) × (length (now x) ≡ n) ⌝ }
-    ensures { λ r. ⌜ (r, now (x .exit)) ≡ unlessBad (firstBad (now (b .entry))) (length (now (d .entry))) (now (x .entry)) (marked (solution m n tolerance (now (d .entry)) (now (b .entry)))) ⌝ }
+    ensures { λ r. ⌜ (r, now (x .exit)) ≡ unlessBad (behind (length (now (d .entry))) (firstBad (now (b .entry)))) (now (x .entry)) (marked (solution m n tolerance (now (d .entry)) (now (b .entry)))) ⌝ }
 {
     let Bad::At(i) = first_bad(b) else {
         return solve_marked(m, n, tolerance, d, b, x);
@@ -304,14 +298,14 @@ fn inverse_marked(m: usize, n: usize, tolerance: f64, d: &[f64], x: &mut [f64]) 
     ensures { λ r. ⌜ (r, now (x .exit)) ≡ marked (inverted m n tolerance (now (d .entry))) ⌝ }
 {
     let r = least(m, n);
-    let mut w = [0.0f64; 256];
+    let mut w = [0.0f64; LARGEST];
     inverted(m, n, r, tolerance, d, &mut w[..r], x);
     marked(x)
 }
 
 fn inverse_scanned(m: usize, n: usize, tolerance: f64, d: &[f64], x: &mut [f64]) -> Answer
     requires { ⌜ Sized m n (length (now d)) × (length (now x) ≡ n * m) ⌝ }
-    ensures { λ r. ⌜ (r, now (x .exit)) ≡ unlessBad (firstBad (now (d .entry))) 0 (now (x .entry)) (marked (inverted m n tolerance (now (d .entry)))) ⌝ }
+    ensures { λ r. ⌜ (r, now (x .exit)) ≡ unlessBad (firstBad (now (d .entry))) (now (x .entry)) (marked (inverted m n tolerance (now (d .entry)))) ⌝ }
 {
     let Bad::At(i) = first_bad(d) else {
         return inverse_marked(m, n, tolerance, d, x);

@@ -7,8 +7,9 @@ use native.Mathlib.Omega.{arith}
 use borrow.Author.Tests.{le-ltb, le-leb, eq-eqb, eqb-true, eqb-false}
 use lib.ListN.{length, length-set, length-replicate}
 use Rattle.grid.specs.Real.{Vec, zero64, zeros}
-use Rattle.grid.specs.Cell.{upto-long}
-use Rattle.leaves.specs.Scan.{firstBad, firstBad-none, firstBad-fine}
+use Rattle.grid.specs.CellLaws.{upto-long}
+use Rattle.leaves.specs.Scan.{firstBad}
+use Rattle.leaves.specs.ScanLaws.{firstBad-none, firstBad-fine}
 use Rattle.answers.specs.Answers.{answered, done, passed, limitGood, lengths, least, decompositionLength, refusal7}
 use Rattle.answers.specs.OutcomeLaws.{none-seven}
 use Rattle.answers.specs.declared.Answer.{Answer}

@@ -9,9 +9,9 @@ use lib.Dec.{ltb, leb}
 use lib.Ieee.{Float, nan}
 use lib.ListN.{length, set, getD, length-set}
 use lib.Seq.{getD-set-same, getD-set-other}
-use Rattle.grid.specs.Loop.{upto-keeps, upto-both}
+use Rattle.grid.specs.LoopLaws.{upto-keeps, upto-both}
 use Rattle.grid.specs.Real.{Vec, at}
-use Rattle.grid.specs.Cell.{cell, one-place, upto-long}
+use Rattle.grid.specs.CellLaws.{cell, one-place, upto-long}
 use Rattle.answers.specs.Answers.{least, present, decompositionLength}
 use Rattle.answers.specs.OutcomeLaws.{present-is}
 use Rattle.svd.specs.Order.{order}

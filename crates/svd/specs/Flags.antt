@@ -7,7 +7,7 @@ use lib.Dec.{ltb, eqb}
 use lib.ListN.{length}
 use Rattle.grid.specs.Real.{Vec, at, zeros}
 use Rattle.leaves.specs.Scan.{firstBad}
-use Rattle.answers.specs.Answers.{refused, pass, passed, limitGood, lengths, least, decompositionLength, refusal7}
+use Rattle.answers.specs.Answers.{refused, done, passed, limitGood, lengths, least, decompositionLength, refusal7}
 use Rattle.answers.specs.declared.Answer.{Answer}
 use Rattle.jacobi.specs.Jacobi.{jacobi}
 use Rattle.svd.specs.Svd.{longest, workLength, loaded, checks, ran, svd}
@@ -40,7 +40,7 @@ numbers m n wantU wantVt limit matrix work result = go (passed c) (passed b)
 
 -- where the result has the length that the flags ask for, the checks say the same
 checks-flags : (m n u vt limit a b : ℕ) → checks m n u vt limit a b (decompositionLength m n u vt)
-    ≡ cond (ltb 256 m || ltb 256 n) (refused 1 0) (cond (limitGood limit) (cond (eqb a (m * n)) (cond (eqb b (workLength m n)) pass (refused 6 1)) (refused 6 0)) (refused 2 0))
+    ≡ cond (ltb 256 m || ltb 256 n) (refused 1 0) (cond (limitGood limit) (cond (eqb a (m * n)) (cond (eqb b (workLength m n)) (done 0) (refused 6 1)) (refused 6 0)) (refused 2 0))
 unfolding checks lengths
 checks-flags m n u vt limit a b = rw (eq-eqb (decompositionLength m n u vt) (decompositionLength m n u vt) refl)
 

@@ -1,19 +1,20 @@
--- What the checks of a call leave known of the sizes, and that every part stands within its array.
+-- What the checks of a call leave known of the sizes, and that every part stands within its array. Laws only.
 use mathlib.Core.Path.{_≡_, refl, sym, ap, _∙_}
 use mathlib.Core.Bool.{Bool, true, false, cond, _&&_, _||_, true≢false}
 use mathlib.Core.List.{List}
-use Prim.Native.Nat.{ℕ, suc, _+_, _*_, _≤_, _<_}
-use native.Mathlib.Nat.{mul-one, mul-comm, mul-le-mul-right, suc-mul}
+use Prim.Native.Nat.{ℕ, _+_, _*_, _≤_, _<_}
+use native.Mathlib.Nat.{mul-one, mul-comm, mul-le-mul-right}
 use native.Mathlib.Omega.{arith}
 use borrow.Author.Tests.{lt-ltb, le-ltb, ltb-true, ltb-false, leb-true, leb-false, eqb-true}
 use lib.Dec.{ltb, leb, eqb}
 use lib.ListN.{length}
 use Rattle.grid.specs.Real.{Vec}
-use Rattle.grid.specs.Cell.{cell}
+use Rattle.grid.specs.CellLaws.{cell}
 use Rattle.answers.specs.declared.Answer.{Answer}
-use Rattle.answers.specs.Answers.{refused, pass, limitGood, lengths, least, present, decompositionLength, least-le, present-le, product-le}
-use Rattle.jacobi.specs.Jacobi.{Sized}
-use Rattle.svd.specs.Order.{Below}
+use Rattle.answers.specs.Answers.{refused, done, limitGood, lengths, least, present, decompositionLength}
+use Rattle.answers.specs.AnswersLaws.{least-le, present-le, product-le}
+use Rattle.jacobi.specs.Kept.{Sized}
+use Rattle.svd.specs.Rank.{Below}
 use Rattle.svd.specs.Svd.{longest, workLength, offset, checks}
 
 -- both dimensions are at most 256, and the two arrays have their lengths
@@ -116,7 +117,7 @@ checks-passed m n wantU wantVt limit a b c z =
     both true false z = absurd (true≢false (sym z))
     both false q z = absurd (true≢false (sym z))
 
-    three : (p q r : Bool) → cond p (cond q (cond r pass (refused 6 2)) (refused 6 1)) (refused 6 0) .answer ≡ 0 → (p ≡ true) × (q ≡ true) × (r ≡ true)
+    three : (p q r : Bool) → cond p (cond q (cond r (done 0) (refused 6 2)) (refused 6 1)) (refused 6 0) .answer ≡ 0 → (p ≡ true) × (q ≡ true) × (r ≡ true)
     three true true true z = (refl, refl, refl)
     three true true false z = absurd (omega arith)
     three true false r z = absurd (omega arith)
@@ -131,13 +132,6 @@ spaces m n wantU wantVt r l work result c e g =
     (small, rw (e, g) (sym (c .works)), product-le m r (c .tall) small, present-le wantU (m * r) 65536 (product-le m r (c .tall) small))
 
 -- ---- the parts that come out
-
--- column j ends within the factor
-pub column-of : (cols rows j : ℕ) → j < cols → j * rows + rows ≤ cols * rows
-column-of cols rows j h =
-    let a : suc j * rows ≤ cols * rows = mul-le-mul-right rows h in
-    let b : suc j * rows ≡ j * rows + rows = suc-mul j rows in
-    omega arith
 
 -- none of the r columns or all of them, as the flag says
 pub present-below : (flag r : ℕ) (o : List ℕ) → Below r o → Below (present flag r) o

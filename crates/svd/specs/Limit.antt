@@ -6,7 +6,7 @@ use native.Mathlib.Omega.{arith}
 use borrow.Author.Tests.{eqb-true}
 use lib.Dec.{eqb}
 use lib.ListN.{length}
-use Rattle.grid.specs.Loop.{rounds-limit}
+use Rattle.grid.specs.LoopLaws.{rounds-limit}
 use Rattle.grid.specs.Real.{Vec, zeros}
 use Rattle.leaves.specs.Scan.{firstBad}
 use Rattle.answers.specs.Answers.{answered, passed, least, refusal7}

@@ -11,9 +11,10 @@ use lib.Ieee.{nan}
 use lib.ListN.{length, take, drop, getD, length-replicate}
 use lib.Seq.{getD-take, getD-drop}
 use Rattle.grid.specs.Real.{Vec, at, zero64, zeros}
-use Rattle.grid.specs.Cell.{cell}
+use Rattle.grid.specs.CellLaws.{cell}
 use Rattle.leaves.specs.Leaf.{isFinite}
-use Rattle.answers.specs.Answers.{least, present, decompositionLength, least-le}
+use Rattle.answers.specs.Answers.{least, present, decompositionLength}
+use Rattle.answers.specs.AnswersLaws.{least-le}
 use Rattle.answers.specs.OutcomeLaws.{present-is, present-none}
 use Rattle.jacobi.specs.Told.{Whole}
 use Rattle.svd.specs.Rank.{order-below}
@@ -22,7 +23,7 @@ use Rattle.svd.specs.declared.Span.the-variants.{At}
 use Rattle.svd.specs.Svd.{longest, offset, sortedOut, svd}
 use Rattle.svd.specs.Row.{vtAt, rowSpan, partOf}
 use Rattle.svd.specs.Known.{wide-longest, tall-longest, wide-least, tall-least}
-use Rattle.svd.specs.Document.{worked, valueOf, plainSvd}
+use Rattle.svd.specs.Document.{plainWork, valueOf, plainSvd}
 use Rattle.svd.specs.Exact.{Taken, orderOf, uCell, vtCell, uFactor, vFactor}
 use Rattle.svd.specs.ExactLaws.{taken-of}
 use Rattle.svd.specs.Factors.{factor-long, sorted-u, sorted-vt}
@@ -37,16 +38,16 @@ module _ (m n wantU wantVt limit : ℕ) (matrix work result : Vec) (z : svd m n 
 
   -- **svd-cells**: cell (i, k) of U is cell (i, order k) of the factor of m rows, and cell (k, j) of V^T cell (j, order k) of the factor of n rows
   pub svd-cells-u : (wantU ≡ 0 → ⊥) → (i k : ℕ) → i < m → k < least m n
-      → at (svd m n wantU wantVt limit matrix work result .2) (uCell m n i k) ≡ uFactor m n (worked m n matrix) i (getD (orderOf m n (worked m n matrix)) k 0)
+      → at (svd m n wantU wantVt limit matrix work result .2) (uCell m n i k) ≡ uFactor m n (plainWork m n matrix) i (getD (orderOf m n (plainWork m n matrix)) k 0)
   unfolding plainSvd
   svd-cells-u flag i k p q =
-      ap (λ (v : Vec). at v (uCell m n i k)) (svd-plain m n wantU wantVt limit matrix work result z) ∙ sorted-u m n wantU wantVt (worked m n matrix) (zeros (decompositionLength m n wantU wantVt)) room flag i k p q
+      ap (λ (v : Vec). at v (uCell m n i k)) (svd-plain m n wantU wantVt limit matrix work result z) ∙ sorted-u m n wantU wantVt (plainWork m n matrix) (zeros (decompositionLength m n wantU wantVt)) room flag i k p q
 
   pub svd-cells-vt : (wantVt ≡ 0 → ⊥) → (k j : ℕ) → k < least m n → j < n
-      → at (svd m n wantU wantVt limit matrix work result .2) (vtCell m n wantU k j) ≡ vFactor m n (worked m n matrix) j (getD (orderOf m n (worked m n matrix)) k 0)
+      → at (svd m n wantU wantVt limit matrix work result .2) (vtCell m n wantU k j) ≡ vFactor m n (plainWork m n matrix) j (getD (orderOf m n (plainWork m n matrix)) k 0)
   unfolding plainSvd
   svd-cells-vt flag k j p q =
-      ap (λ (v : Vec). at v (vtCell m n wantU k j)) (svd-plain m n wantU wantVt limit matrix work result z) ∙ sorted-vt m n wantU wantVt (worked m n matrix) (zeros (decompositionLength m n wantU wantVt)) room flag k j p q
+      ap (λ (v : Vec). at v (vtCell m n wantU k j)) (svd-plain m n wantU wantVt limit matrix work result z) ∙ sorted-vt m n wantU wantVt (plainWork m n matrix) (zeros (decompositionLength m n wantU wantVt)) room flag k j p q
 
   pub svd-long : length (svd m n wantU wantVt limit matrix work result .2) ≡ decompositionLength m n wantU wantVt
   unfolding plainSvd sortedOut
@@ -60,7 +61,7 @@ module _ (m n wantU wantVt limit : ℕ) (matrix work result : Vec) (z : svd m n 
   -- **vt-row-cells**: so number j of row k of V^T, the part that `vt_row` gives, is cell (j, order k) of the factor of n rows
   pub vt-row-cells : (wantVt ≡ 0 → ⊥) → (k j : ℕ) → k < least m n → j < n →
       let res = svd m n wantU wantVt limit matrix work result .2 in
-      at (partOf res (rowSpan (length res) m n wantU wantVt k)) j ≡ vFactor m n (worked m n matrix) j (getD (orderOf m n (worked m n matrix)) k 0)
+      at (partOf res (rowSpan (length res) m n wantU wantVt k)) j ≡ vFactor m n (plainWork m n matrix) j (getD (orderOf m n (plainWork m n matrix)) k 0)
   unfolding rowSpan
   vt-row-cells flag k j p q =
       let res : Vec = svd m n wantU wantVt limit matrix work result .2 in
@@ -78,49 +79,49 @@ module _ (m n wantU wantVt limit : ℕ) (matrix work result : Vec) (z : svd m n 
 
   -- ---- every number of a result is finite
 
-  whole : Whole (longest m n) (least m n) (worked m n matrix)
+  whole : Whole (longest m n) (least m n) (plainWork m n matrix)
   whole = worked-whole m n wantU wantVt limit matrix work result z
 
   small : least m n ≤ 256
   small = least-le m n 256 (taken .tall) (taken .wide)
 
   -- the column that comes to place k
-  column-at : (k : ℕ) → k < least m n → getD (orderOf m n (worked m n matrix)) k 0 < least m n
-  column-at k q = order-below (valueOf m n (worked m n matrix)) (least m n) small k q
+  column-at : (k : ℕ) → k < least m n → getD (orderOf m n (plainWork m n matrix)) k 0 < least m n
+  column-at k q = order-below (valueOf m n (plainWork m n matrix)) (least m n) small k q
 
-  u-finite : (i p : ℕ) → i < m → p < least m n → isFinite (uFactor m n (worked m n matrix) i p) ≡ true
+  u-finite : (i p : ℕ) → i < m → p < least m n → isFinite (uFactor m n (plainWork m n matrix) i p) ≡ true
   u-finite i p a b = go (ltb m n) refl
     where
-      go : (t : Bool) → ltb m n ≡ t → isFinite (at (worked m n matrix) (offset t (longest m n * least m n) + p * m + i)) ≡ true
+      go : (t : Bool) → ltb m n ≡ t → isFinite (at (plainWork m n matrix) (offset t (longest m n * least m n) + p * m + i)) ≡ true
       go true e =
           let r : least m n ≡ m = wide-least m n (ltb-true m n e) in
-          subst (λ (j : ℕ). isFinite (at (worked m n matrix) j) ≡ true) (omega arith)
+          subst (λ (j : ℕ). isFinite (at (plainWork m n matrix) j) ≡ true) (omega arith)
           (whole .factors .second (p * m + i) (rw r (cell m m p i (omega arith) a)))
       go false e =
           let r : least m n ≡ n = tall-least m n (ltb-false m n e) in
           let l : longest m n ≡ m = tall-longest m n (ltb-false m n e) in
-          subst (λ (j : ℕ). isFinite (at (worked m n matrix) j) ≡ true) (omega arith)
+          subst (λ (j : ℕ). isFinite (at (plainWork m n matrix) j) ≡ true) (omega arith)
           (whole .factors .first (p * m + i) (rw (r, l, mul-comm m n) (cell n m p i (omega arith) a)))
 
-  v-finite : (j p : ℕ) → j < n → p < least m n → isFinite (vFactor m n (worked m n matrix) j p) ≡ true
+  v-finite : (j p : ℕ) → j < n → p < least m n → isFinite (vFactor m n (plainWork m n matrix) j p) ≡ true
   v-finite j p a b = go (leb n m) refl
     where
-      go : (t : Bool) → leb n m ≡ t → isFinite (at (worked m n matrix) (offset t (longest m n * least m n) + p * n + j)) ≡ true
+      go : (t : Bool) → leb n m ≡ t → isFinite (at (plainWork m n matrix) (offset t (longest m n * least m n) + p * n + j)) ≡ true
       go true e =
           let r : least m n ≡ n = tall-least m n (leb-true n m e) in
-          subst (λ (i : ℕ). isFinite (at (worked m n matrix) i) ≡ true) (omega arith)
+          subst (λ (i : ℕ). isFinite (at (plainWork m n matrix) i) ≡ true) (omega arith)
           (whole .factors .second (p * n + j) (rw r (cell n n p j (omega arith) a)))
       go false e =
           let r : least m n ≡ m = wide-least m n (leb-false n m e) in
           let l : longest m n ≡ n = wide-longest m n (leb-false n m e) in
-          subst (λ (i : ℕ). isFinite (at (worked m n matrix) i) ≡ true) (omega arith)
+          subst (λ (i : ℕ). isFinite (at (plainWork m n matrix) i) ≡ true) (omega arith)
           (whole .factors .first (p * n + j) (rw (r, l, mul-comm n m) (cell m n p j (omega arith) a)))
 
   -- **svd-finite-out**: the values, U and V^T, so far as they are wanted
   pub svd-finite-out : (x : ℕ) → x < decompositionLength m n wantU wantVt → isFinite (at (svd m n wantU wantVt limit matrix work result .2) x) ≡ true
   unfolding decompositionLength
   svd-finite-out x l = elim (decLt x r) [
-    | yes h ↦ ap isFinite (svd-values m n wantU wantVt limit matrix work result z x h) ∙ svd-finite m n wantU wantVt limit matrix work result z (getD (orderOf m n (worked m n matrix)) x 0) (column-at x h)
+    | yes h ↦ ap isFinite (svd-values m n wantU wantVt limit matrix work result z x h) ∙ svd-finite m n wantU wantVt limit matrix work result z (getD (orderOf m n (plainWork m n matrix)) x 0) (column-at x h)
     | no h ↦ elim (decLt x (r + present wantU (m * r))) [
       | yes g ↦
           let q = in-part wantU (m * r) (x - r) (omega arith) in
@@ -145,10 +146,10 @@ module _ (m n wantU wantVt limit : ℕ) (matrix work result : Vec) (z : svd m n 
       out = svd m n wantU wantVt limit matrix work result .2
 
       u-at : (wantU ≡ 0 → ⊥) → (i k : ℕ) → i < m → k < least m n → isFinite (at out (uCell m n i k)) ≡ true
-      u-at flag i k p q = ap isFinite (svd-cells-u flag i k p q) ∙ u-finite i (getD (orderOf m n (worked m n matrix)) k 0) p (column-at k q)
+      u-at flag i k p q = ap isFinite (svd-cells-u flag i k p q) ∙ u-finite i (getD (orderOf m n (plainWork m n matrix)) k 0) p (column-at k q)
 
       vt-at : (wantVt ≡ 0 → ⊥) → (k j : ℕ) → k < least m n → j < n → isFinite (at out (vtCell m n wantU k j)) ≡ true
-      vt-at flag k j p q = ap isFinite (svd-cells-vt flag k j p q) ∙ v-finite j (getD (orderOf m n (worked m n matrix)) k 0) q (column-at k p)
+      vt-at flag k j p q = ap isFinite (svd-cells-vt flag k j p q) ∙ v-finite j (getD (orderOf m n (plainWork m n matrix)) k 0) q (column-at k p)
 
       -- a part that has a number is wanted
       in-part : (flag count y : ℕ) → y < present flag count → (flag ≡ 0 → ⊥) × (y < count)

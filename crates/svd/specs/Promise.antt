@@ -8,15 +8,16 @@ use lib.Ieee.{le}
 use lib.ListN.{getD, length-replicate}
 use Rattle.grid.specs.Real.{Vec, at, zeros, zero64}
 use Rattle.leaves.specs.Leaf.{isFinite}
-use Rattle.answers.specs.Answers.{passed, least, decompositionLength, least-le}
+use Rattle.answers.specs.Answers.{passed, least, decompositionLength}
+use Rattle.answers.specs.AnswersLaws.{least-le}
 use Rattle.answers.specs.declared.Answer.{Answer}
 use Rattle.jacobi.specs.Jacobi.{jacobi}
 use Rattle.jacobi.specs.Told.{Whole}
 use Rattle.jacobi.specs.ToldLaws.{jacobi-whole, jacobi-plain}
 use Rattle.svd.specs.Order.{order}
-use Rattle.svd.specs.Sorted.{Sorted, order-sorted}
+use Rattle.svd.specs.Sorted.{order-sorted}
 use Rattle.svd.specs.Svd.{longest, sortedOut, svd}
-use Rattle.svd.specs.Document.{worked, valueOf, plainSvd}
+use Rattle.svd.specs.Document.{plainWork, valueOf, plainSvd, Sorted}
 use Rattle.svd.specs.Exact.{Outcome, Promised, Taken, begun, given}
 use Rattle.svd.specs.ExactLaws.{taken-of, begun-long, runs, answer-is}
 use Rattle.svd.specs.Factors.{sorted-values}
@@ -34,8 +35,8 @@ module _ (m n wantU wantVt limit : ℕ) (matrix work result : Vec) (z : svd m n 
   ran0 : jacobi (longest m n) (least m n) limit (begun m n matrix) .0 .answer ≡ 0
   ran0 = ap (λ (t : Answer). t .answer) (sym (answer-is m n wantU wantVt limit matrix work result taken)) ∙ z
 
-  ran-worked : jacobi (longest m n) (least m n) limit (begun m n matrix) .1 ≡ worked m n matrix
-  unfolding worked
+  ran-worked : jacobi (longest m n) (least m n) limit (begun m n matrix) .1 ≡ plainWork m n matrix
+  unfolding plainWork
   ran-worked = jacobi-plain (longest m n) (least m n) limit (begun m n matrix) (begun-long m n matrix) (taken .most) ran0
 
   -- **marks and limit only stop** (T5): the result of a call that is done is document 000's
@@ -46,25 +47,25 @@ module _ (m n wantU wantVt limit : ℕ) (matrix work result : Vec) (z : svd m n 
       ∙ rw (eq-eqb (jacobi (longest m n) (least m n) limit (begun m n matrix) .0 .answer) 0 ran0, ran-worked)
 
   -- its values and factors are finite
-  pub worked-whole : Whole (longest m n) (least m n) (worked m n matrix)
+  pub worked-whole : Whole (longest m n) (least m n) (plainWork m n matrix)
   worked-whole =
       subst (Whole (longest m n) (least m n)) ran-worked (jacobi-whole (longest m n) (least m n) limit (begun m n matrix) (begun-long m n matrix) ran0)
 
-  pub svd-finite : (k : ℕ) → k < least m n → isFinite (valueOf m n (worked m n matrix) k) ≡ true
+  pub svd-finite : (k : ℕ) → k < least m n → isFinite (valueOf m n (plainWork m n matrix) k) ≡ true
   svd-finite = worked-whole .values
 
   -- **the order** (T7): the columns come out in the stable descending order of their values
-  pub svd-sorted : Sorted (valueOf m n (worked m n matrix)) (least m n) (order (valueOf m n (worked m n matrix)) (least m n))
-  svd-sorted = order-sorted (valueOf m n (worked m n matrix)) (least m n) svd-finite (least-le m n 256 (taken .tall) (taken .wide))
+  pub svd-sorted : Sorted (valueOf m n (plainWork m n matrix)) (least m n) (order (valueOf m n (plainWork m n matrix)) (least m n))
+  svd-sorted = order-sorted (valueOf m n (plainWork m n matrix)) (least m n) svd-finite (least-le m n 256 (taken .tall) (taken .wide))
 
   -- so the first r numbers of the result are the values of those columns, and they descend
   pub svd-values : (k : ℕ) → k < least m n
       → at (svd m n wantU wantVt limit matrix work result .2) k
-      ≡ valueOf m n (worked m n matrix) (getD (order (valueOf m n (worked m n matrix)) (least m n)) k 0)
+      ≡ valueOf m n (plainWork m n matrix) (getD (order (valueOf m n (plainWork m n matrix)) (least m n)) k 0)
   unfolding plainSvd decompositionLength
   svd-values k h =
       ap (λ (v : Vec). at v k) svd-plain
-      ∙ sorted-values m n wantU wantVt (worked m n matrix) (zeros (decompositionLength m n wantU wantVt))
+      ∙ sorted-values m n wantU wantVt (plainWork m n matrix) (zeros (decompositionLength m n wantU wantVt))
       (rw (length-replicate (decompositionLength m n wantU wantVt) zero64) (omega arith)) k h
 
   pub svd-descends : (p q : ℕ) → p < q → q < least m n

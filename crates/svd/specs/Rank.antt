@@ -1,4 +1,4 @@
--- A column's place is below r, and so is the column that is noted at a place.
+-- A column's place is below r, and so is the column that is noted at a place. Laws only.
 use mathlib.Core.Path.{_≡_, refl, sym, ap, _∙_}
 use mathlib.Core.Bool.{Bool, true, false, cond}
 use mathlib.Core.List.{List}
@@ -10,9 +10,14 @@ use lib.Dec.{ltb, eqb}
 use lib.Ieee.{Float}
 use lib.ListN.{length, set, getD, replicate, length-set, getD-replicate, List·getD-eq-default}
 use lib.Seq.{getD-set-same, getD-set-other}
-use Rattle.grid.specs.Loop.{upto, upto-none, upto-more, upto-keeps}
+use Rattle.grid.specs.Loop.{upto}
+use Rattle.grid.specs.LoopLaws.{upto-none, upto-more, upto-keeps}
 use Rattle.leaves.specs.Compare.{lt-self}
-use Rattle.svd.specs.Order.{ahead, one, rank, noteStep, noted, order, Below}
+use Rattle.svd.specs.Order.{ahead, one, rank, noteStep, noted, order}
+
+-- every place below r has a column below r
+abbrev pub Below : ℕ → List ℕ → Type 0
+Below r o = (k : ℕ) → k < r → getD o k 0 < r
 
 -- ---- how many of the first r: the sum of numbers that are 0 or 1
 

@@ -1,14 +1,11 @@
--- Where row j of V^T stands in an svd result, if it does; and that it stands within it.
-use mathlib.Core.Path.{_≡_}
+-- Where row j of V^T stands in an svd result, if it does. Definitions only.
 use mathlib.Core.Bool.{Bool, true, false}
-use Prim.Native.Nat.{ℕ, _+_, _*_, _-_, _≤_, _<_}
-use native.Mathlib.Omega.{arith}
+use Prim.Native.Nat.{ℕ, _+_, _*_, _-_}
 use lib.Dec.{ltb, leb, eqb}
 use lib.ListN.{take, drop}
 use Rattle.grid.specs.Real.{Vec}
 use Rattle.answers.specs.Answers.{least, present, decompositionLength}
-use Rattle.answers.specs.OutcomeLaws.{present-is}
-use Rattle.svd.specs.Known.{column-of}
+use Rattle.svd.specs.declared.Extent.{Extent}
 use Rattle.svd.specs.declared.Span.{Span}
 use Rattle.svd.specs.declared.Span.the-variants.{At, Missing}
 
@@ -37,15 +34,12 @@ abbrev pub partOf : Vec → Span → Vec
 partOf xs (At a e) = take (e - a) (drop a xs)
 partOf xs Missing = take 0 (drop 0 xs)
 
--- a span that is there stands within a list of that length
-abbrev pub Within : ℕ → Span → Type 0
-Within len (At a e) = (a ≤ e) × (e ≤ len)
-Within len Missing = Unit
+-- where that part starts in memory, for a list that starts at p: an allocation and an offset in it, in bytes
+abbrev pub partAt : ℕ × ℕ → Span → ℕ × ℕ
+partAt p (At a e) = (p .0, a * 8 + p .1)
+partAt p Missing = p
 
--- ---- a row that is there ends within the result
-
-pub row-fits : (len m n hasU hasVt j r u : ℕ) → r ≡ least m n → u ≡ present hasU (m * r) → (hasVt ≡ 0 → ⊥) → j < r → len ≡ decompositionLength m n hasU hasVt
-    → r + u + j * n + n ≤ len
-unfolding decompositionLength
-row-fits len m n hasU hasVt j r u e g p h q =
-    rw (g, e) (omega (arith, q, column-of (least m n) n j (rw e at h), present-is hasVt (least m n * n) p))
+-- the same part by its numbers: the index where it starts, and how long it is
+abbrev pub extentOf : Span → Extent
+extentOf (At a e) = record { start = a; length = e - a }
+extentOf Missing = record { start = 0; length = 0 }

@@ -1,5 +1,5 @@
--- T7: the order is the stable descending one. Counting gives each column a place of its own, before every column that comes after it; and as many places as columns
--- leave none free.
+-- T7: the order is the stable descending one. Laws only.
+-- Counting gives each column a place of its own, before every column that comes after it; and as many places as columns leave none free.
 use mathlib.Core.Path.{_≡_, refl, sym, ap, _∙_}
 use mathlib.Core.Bool.{Bool, true, false, cond, not, _||_, _&&_, true≢false}
 use mathlib.Core.List.{List}
@@ -10,20 +10,12 @@ use lib.Dec.{ltb, eqb}
 use lib.Ieee.{Float, lt, eq, le}
 use lib.ListN.{length, set, getD, replicate, length-set, length-replicate}
 use lib.Seq.{getD-set-same, getD-set-other}
-use Rattle.grid.specs.Loop.{upto-both}
+use Rattle.grid.specs.LoopLaws.{upto-both}
 use Rattle.leaves.specs.Leaf.{isFinite}
-use Rattle.svd.specs.Order.{ahead, one, rank, noteStep, noted, order, Below}
-use Rattle.svd.specs.Rank.{total, total-none, total-more, one-le, ahead-self, rank-total, rank-lt, order-below}
+use Rattle.svd.specs.Order.{ahead, one, rank, noteStep, noted, order}
+use Rattle.svd.specs.Rank.{Below, total, total-none, total-more, one-le, ahead-self, rank-total, rank-lt, order-below}
+use Rattle.svd.specs.Document.{Sorted}
 use Rattle.leaves.specs.Compare.{lt-chain, lt-turn, le-of-not, not-of-eq}
-
--- o names a column for each place below r so that the values descend and equal values keep their order
-pub record Sorted (s : ℕ → Float) (r : ℕ) (o : List ℕ) : Type 0 where
-  -- every column is there, and once
-  pub within : (p : ℕ) → p < r → getD o p 0 < r
-  pub there : (k : ℕ) → k < r → (p : ℕ) × (p < r) × (getD o p 0 ≡ k)
-  pub once : (p q : ℕ) → p < r → q < r → getD o p 0 ≡ getD o q 0 → p ≡ q
-  pub descends : (p q : ℕ) → p < q → q < r → le (s (getD o q 0)) (s (getD o p 0)) ≡ true
-  pub stable : (p q : ℕ) → p < q → q < r → eq (s (getD o p 0)) (s (getD o q 0)) ≡ true → getD o p 0 < getD o q 0
 
 -- ---- sums that differ
 

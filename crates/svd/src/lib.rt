@@ -4,13 +4,15 @@ ghost use mathlib.Core.Bool.{cond};
 ghost use Prim.Native.Nat.{ℕ, _+_, _*_, _≤_, _<_};
 ghost use lib.Dec.{eqb};
 ghost use lib.ListN.{length};
+ghost use denote.Ref.{ptr};
 ghost use Rattle.grid.specs.Real.{at};
 ghost use Rattle.answers.specs.Answers.{least};
-ghost use Rattle.jacobi.specs.Jacobi.{Sized};
+ghost use Rattle.jacobi.specs.Kept.{Sized};
 ghost use Rattle.svd.specs.Order.{ahead, one, rank, noted};
 ghost use Rattle.svd.specs.Svd.{longest, workLength, source, columnLoaded, matrixLoaded, eyed, columnOut, factorOut, offset, sortedOut, checks, ran, svd};
 ghost use Rattle.svd.specs.Known.{Checked, Out};
-ghost use Rattle.svd.specs.Row.{rowSpan, partOf, Within};
+ghost use Rattle.svd.specs.Row.{rowSpan, partOf, partAt, extentOf};
+ghost use Rattle.svd.specs.RowLaws.{Within};
 use answers::Answer;
 use answers::decomposition_length;
 use answers::least;
@@ -18,6 +20,8 @@ use answers::lengths;
 use answers::limit_good;
 use answers::present;
 use answers::refusal7;
+use answers::refused;
+use grid::LARGEST;
 use grid::at1;
 use grid::entry;
 use grid::fill;
@@ -53,29 +57,17 @@ fn checks(
 ) -> Answer
     ensures { λ r. ⌜ r ≡ checks m n «want_u» «want_vt» limit a b c ⌝ }
 {
-    if m > 256 {
-        return Answer {
-            answer: 1,
-            place: 0,
-            count: 0,
-        };
+    if m > LARGEST {
+        return refused(1, 0);
     }
-    if n > 256 {
-        return Answer {
-            answer: 1,
-            place: 0,
-            count: 0,
-        };
+    if n > LARGEST {
+        return refused(1, 0);
     }
     if limit_good(limit) {
         let result = decomposition_length(m, n, want_u, want_vt);
         return lengths(a, m * n, b, work_length(m, n), c, result);
     }
-    Answer {
-        answer: 2,
-        place: 0,
-        count: 0,
-    }
+    refused(2, 0)
 }
 
 // Row i, column j of the matrix, or of its transpose where m < n.
@@ -146,7 +138,7 @@ fn rank(w: &[f64], from: usize, r: usize, k: usize) -> usize
 }
 
 // Notes each column at its place.
-fn note(w: &[f64], from: usize, r: usize, o: &mut [usize; 256])
+fn note(w: &[f64], from: usize, r: usize, o: &mut [usize; LARGEST])
     requires { ⌜ (r ≤ 256) × (from + r ≤ length (now w)) ⌝ }
     ensures { λ _. ⌜ now (o .exit) ≡ noted (λ (i : ℕ). at (now (w .entry)) (from + i)) r (now (o .entry)) ⌝ }
 {
@@ -175,7 +167,7 @@ fn factor_out(
     to: usize,
     down: usize,
     across: usize,
-    o: &[usize; 256],
+    o: &[usize; LARGEST],
     res: &mut [f64],
 )
     requires { ⌜ Out cols from rows to down across (now w) (now o) (now res) ⌝ }
@@ -201,7 +193,7 @@ fn sorted_out(m: usize, n: usize, want_u: usize, want_vt: usize, w: &[f64], res:
     let r = least(m, n);
     let second = longest(m, n) * r;
     let values = second + r * r;
-    let mut o = [0usize; 256];
+    let mut o = [0usize; LARGEST];
     note(w, values, r, &mut o);
     factor_out(r, w, values, 1, 0, 1, 1, &o, res);
     let u_at = offset(m < n, second);
@@ -296,10 +288,10 @@ fn row_span(len: usize, m: usize, n: usize, has_u: usize, has_vt: usize, j: usiz
     ensures { λ r. ⌜ r ≡ rowSpan len m n «has_u» «has_vt» j ⌝ }
     ensures within { λ r. ⌜ Within len r ⌝ }
 {
-    if m > 256 {
+    if m > LARGEST {
         return Span::Missing;
     }
-    if n > 256 {
+    if n > LARGEST {
         return Span::Missing;
     }
     if has_vt == 0 {
@@ -326,9 +318,39 @@ pub fn vt_row<'a>(
     decomposition: &'a [f64],
 ) -> &'a [f64]
     ensures { λ r. ⌜ now r ≡ partOf (now (decomposition .entry)) (rowSpan (length (now (decomposition .entry))) m n «has_u» «has_vt» j) ⌝ }
+    ensures { λ r. ⌜ ptr r ≡ partAt (ptr (decomposition .entry)) (rowSpan (length (now (decomposition .entry))) m n «has_u» «has_vt» j) ⌝ }
 {
     let Span::At(a, e) = row_span(decomposition.len(), m, n, has_u, has_vt, j) else {
         return &decomposition[0..0];
     };
     &decomposition[a..e]
+}
+
+// The same part by its numbers, for a caller in C: both are 0 for the empty part.
+#[repr(C)]
+pub struct Extent {
+    pub start: usize,
+    pub length: usize,
+}
+
+pub fn vt_row_extent(
+    m: usize,
+    n: usize,
+    has_u: usize,
+    has_vt: usize,
+    len: usize,
+    j: usize,
+) -> Extent
+    ensures { λ r. ⌜ r ≡ extentOf (rowSpan len m n «has_u» «has_vt» j) ⌝ }
+{
+    let Span::At(a, e) = row_span(len, m, n, has_u, has_vt, j) else {
+        return Extent {
+            start: 0,
+            length: 0,
+        };
+    };
+    Extent {
+        start: a,
+        length: e - a,
+    }
 }

@@ -1,4 +1,4 @@
--- Laws of the definitions: parts of lists, digits and their values, tests over a range, words.
+-- Parts of lists, digits and their values, tests over a range, words. Laws only.
 use mathlib.Core.Path.{_≡_, refl, sym, ap, _∙_}
 use mathlib.Core.Bool.{Bool, true, false, cond, _&&_, true≢false}
 use mathlib.Core.Logic.{_⊎_, inl, inr, ⊎-elim}

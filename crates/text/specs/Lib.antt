@@ -1,7 +1,8 @@
--- The text of eigtext: how it is written and how it is read, that the two are inverse, and the laws that the code rests on.
+-- Writing: how a text of eigtext and its answer are written. Reading: how a text is read. Accepts: which texts those are, as T8 says it. The others are laws: T8 stands in AcceptsLaws.
 pub mod Writing
 pub mod Reading
+pub mod Accepts
 pub mod Laws
 pub mod Numbers
-pub mod Accepts
+pub mod AcceptsLaws
 pub mod Stores

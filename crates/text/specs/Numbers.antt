@@ -1,4 +1,4 @@
--- A decimal number of at most three digits is read where it is written, and only there.
+-- A decimal number of at most three digits is read where it is written, and only there. Laws only.
 use mathlib.Core.Path.{_≡_, refl, sym, ap, _∙_}
 use mathlib.Core.Bool.{Bool, true, false, cond}
 use mathlib.Core.Logic.{⊎-elim}

@@ -108,9 +108,6 @@ reading t = readingOf t (head t)
 unfoldable pub float : ℕ → Float
 float b = cond (ltb 0x7ff0_0000_0000_0000 (b % 2 ^ 63)) nan (ofBits binary64 b)
 
-abbrev pub floatAt : List ℕ → ℕ → ℕ → Float
-floatAt t start k = float (wordAt t (start + 17 * k))
-
 -- what reading answers and leaves in the matrix: the words at its front, what goes past the end being dropped
 abbrev pub outcome : Text → List Float → Reading × List Float
 outcome (good n limit ws) matrix = (reading-is.Good n limit, sets matrix 0 (map float ws))

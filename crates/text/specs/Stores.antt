@@ -1,4 +1,4 @@
--- Laws of stores: a text put to a buffer piece by piece is the whole put once, and the loops that the code does it by.
+-- A text put to a buffer piece by piece is the whole put once, and the loops that the code does it by; no promise speaks of these. Laws only.
 use mathlib.Core.Path.{_≡_, refl, sym, ap, _∙_}
 use mathlib.Core.Logic.{_≢_}
 use mathlib.Core.Bool.{Bool, true, false, cond, true≢false}
@@ -12,10 +12,10 @@ use lib.Dec.{ltb, leb, eqb}
 use lib.ListN.{length, set, length-append}
 use lib.Seq.{sets, set-comm}
 use lib.Ieee.{Float}
-use Rattle.text.specs.Writing.{glyph, digits, placesFrom, places, number, joined, separator, group, lines, append, written, bitsAt, shown, answerText}
-use Rattle.text.specs.Reading.{table}
+use Rattle.text.specs.Writing.{glyph, digits, placesFrom, places, number, joined, separator, group, lines, written, bitsAt, shown, answerText}
+use Rattle.text.specs.Reading.{wordAt, table, float}
 use Rattle.text.specs.Laws.{digits-length}
-use Rattle.text.specs.Accepts.{table-length, lines-length}
+use Rattle.text.specs.AcceptsLaws.{table-length, lines-length}
 
 module _ {A : Type 0} where
   pub sets-append : (l : List A) (i : ℕ) (vs ws : List A) → sets l i (vs ++ ws) ≡ sets (sets l i vs) (i + length vs) ws
@@ -45,7 +45,15 @@ unfolding table
 table-map f g zero = refl
 table-map f g (suc m) = map-append f (table g m) (g m ∷ []) ∙ rw (table-map f g m)
 
--- ---- pieces
+-- number k of the words that start at `start`
+abbrev pub floatAt : List ℕ → ℕ → ℕ → Float
+floatAt t start k = float (wordAt t (start + 17 * k))
+
+-- ---- pieces, put to a place of a buffer's bytes
+
+-- bytes put from the place on, what goes past the end being dropped, and the place behind them
+abbrev pub append : ℕ × List ℕ → List ℕ → ℕ × List ℕ
+append s bytes = (s .0 + length bytes, sets (s .1) (s .0) bytes)
 
 pub append-both : (s : ℕ × List ℕ) (vs ws : List ℕ) → append (append s vs) ws ≡ append s (vs ++ ws)
 append-both s vs ws =

@@ -75,12 +75,8 @@ answerText answer place count n result =
 unfoldable pub badText : List ℕ
 badText = 98 ∷ 97 ∷ 100 ∷ 32 ∷ 116 ∷ 101 ∷ 120 ∷ 116 ∷ 10 ∷ []
 
--- ---- what a buffer holds: a place and the buffer's bytes
+-- ---- what a buffer holds
 
--- bytes put from the place on, what goes past the end being dropped, and the place behind them
-abbrev pub append : ℕ × List ℕ → List ℕ → ℕ × List ℕ
-append s bytes = (s .0 + length bytes, sets (s .1) (s .0) bytes)
-
--- a text put to the buffer's front: its length, and the buffer
+-- a text put to the buffer's front, what goes past the end being dropped: its length, and the buffer
 abbrev pub written : List ℕ → List ℕ → ℕ × List ℕ
 written text out = (length text, sets out 0 text)

@@ -6,8 +6,9 @@ ghost use mathlib.Core.List.{_++_};
 ghost use Prim.Native.Nat.{_+_, _*_, _<_, _≤_};
 ghost use lib.ListN.{set};
 ghost use lib.Seq.{sets};
-ghost use Rattle.text.specs.Writing.{glyph, digits, places, number, separator, group, lines, append, written, bits, bitsAt, shown, answerText, badText};
-ghost use Rattle.text.specs.Reading.{byte, value, numberAt, limitOf, head, every, digitAt, groupAt, wordAt, table, float, floatAt, wordsRead, reading, outcome};
+ghost use Rattle.text.specs.Writing.{glyph, digits, places, number, separator, group, lines, written, bits, bitsAt, shown, answerText, badText};
+ghost use Rattle.text.specs.Reading.{byte, value, numberAt, limitOf, head, every, digitAt, groupAt, wordAt, table, float, wordsRead, reading, outcome};
+ghost use Rattle.text.specs.Stores.{append, floatAt};
 
 // What a text gives: the size and the limit of its first line, its numbers standing in the matrix, or nothing.
 pub enum Reading {

@@ -1,4 +1,5 @@
--- Two lists that agree at the places of which P holds. A store of one value at one place of both keeps that, and adds the place. Assumes nothing.
+-- Two lists that agree at the places of which P holds. Laws only.
+-- A store of one value at one place of both keeps that, and adds the place. Assumes nothing.
 use mathlib.Core.Path.{_≡_, sym, ap, _∙_, subst}
 use mathlib.Core.Logic.{_≢_}
 use Prim.Native.Nat.{ℕ, _≤_, _<_}

@@ -1,4 +1,4 @@
--- The definition that `tred2` is proved equal to; the theorem that it reads nothing above the diagonal; that it keeps lengths.
+-- Tred: the definition that `tred2` is proved equal to. The others are laws: that it reads nothing above the diagonal, and that it keeps lengths.
 pub mod Tred
 pub mod Agree
 pub mod Lower

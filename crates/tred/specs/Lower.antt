@@ -1,4 +1,5 @@
--- tred2 reads nothing above the diagonal: two matrices that agree on and below it, whatever d and e hold before, have one result (`lower`). Assumes nothing.
+-- tred2 reads nothing above the diagonal. Laws only.
+-- Two matrices that agree on and below it, whatever d and e hold before, have one result (`lower`). Assumes nothing.
 use mathlib.Core.Path.{_≡_, refl, sym, ap, _∙_, subst}
 use mathlib.Core.Bool.{Bool, true, false, cond}
 use mathlib.Core.Logic.{_≢_}
@@ -8,9 +9,10 @@ use native.Mathlib.Decide.{ℕ-discrete, decLt}
 use native.Mathlib.Omega.{arith}
 use lib.Ieee.{Float, eq}
 use lib.ListN.{length, set}
-use Rattle.grid.specs.Loop.{upto-both, upto-keeps, upto-same, down-both}
+use Rattle.grid.specs.LoopLaws.{upto-both, upto-keeps, upto-same, down-both}
 use Rattle.grid.specs.Real.{Vec, zero64, one64, at, _⊕_, _⊖_, _⊗_, _⊘_}
-use Rattle.grid.specs.Cell.{Sized, at2, put2}
+use Rattle.grid.specs.Cell.{at2, put2}
+use Rattle.grid.specs.CellLaws.{Sized}
 use Rattle.leaves.specs.Root.{root}
 use Rattle.tred.specs.Tred.{scaleOf, skipStep, skipRow, overScale, clearStep, clear, against, generate, similarStep, similarColumn, similarityStep, similarity, overH, lessen, updateStep, updateColumn, updatesStep, updates, reflect, skip, reduce, householder, reduction, accumulation, copyStep, copyLast, moveLast, tred2}
 use Rattle.tred.specs.Agree.{Agree, stored, kept, fewer, whole, of-equal, beyond-end}

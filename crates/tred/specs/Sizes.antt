@@ -4,10 +4,10 @@ use mathlib.Core.Bool.{Bool, true, false, cond}
 use Prim.Native.Nat.{ℕ, suc, _+_, _-_}
 use lib.Ieee.{Float, eq, ne}
 use lib.ListN.{length, length-set}
-use Rattle.grid.specs.Loop.{down-both}
+use Rattle.grid.specs.LoopLaws.{down-both}
 use Rattle.grid.specs.Real.{Vec, zero64}
-use Rattle.grid.specs.Cell.{upto-long}
-use Rattle.tred.specs.Tred.{skipStep, skipRow, clearStep, clear, overScaleStep, overScale, generate, similarStep, similarColumn, similarityStep, similarity, overHStep, overH, lessenStep, lessen, updateStep, updateColumn, updatesStep, updates, reflect, skip, reduce, householder, reduction, columnOverStep, columnOver, takeStep, takeOff, turnStep, turn, clearColumnStep, clearColumn, apply, accumulate, accumulation, copyStep, copyLast, moveStep, moveLast, tred2}
+use Rattle.grid.specs.CellLaws.{upto-long}
+use Rattle.tred.specs.Tred.{skipStep, skipRow, clearStep, clear, overScaleStep, overScale, generate, similarStep, similarColumn, similarityStep, similarity, overHStep, overH, lessenStep, lessen, updateStep, updateColumn, updatesStep, updates, reflect, skip, reduce, householder, reduction, columnOverStep, columnOver, takeStep, takeOff, turnStep, turnColumns, clearColumnStep, clearColumn, apply, accumulate, accumulation, copyStep, copyLast, moveStep, moveLast, tred2}
 
 -- ---- e through the reduction
 
@@ -120,9 +120,9 @@ take-square : (n m j : ℕ) (g : Float) (d v : Vec) → length (takeOff n m j g 
 unfolding takeOff
 take-square n m j g d v = upto-long (λ v. v) (takeStep n j g d) 0 m v (λ k v. simp length-set)
 
-turn-square : (n m : ℕ) (d v : Vec) → length (turn n m d v) ≡ length v
-unfolding turn
-turn-square n m d v = upto-long (λ v. v) (turnStep n m d) 0 m v (λ j v. simp take-square)
+turnColumns-square : (n m : ℕ) (d v : Vec) → length (turnColumns n m d v) ≡ length v
+unfolding turnColumns
+turnColumns-square n m d v = upto-long (λ v. v) (turnStep n m d) 0 m v (λ j v. simp take-square)
 
 clear-square : (n m : ℕ) (v : Vec) → length (clearColumn n m v) ≡ length v
 unfolding clearColumn
@@ -132,8 +132,8 @@ apply-square : (n m : ℕ) (h : Float) (s : Vec × Vec) → length (apply n m h 
 unfolding apply
 apply-square n m h s = go (ne h zero64)
   where
-    go : (b : Bool) → length (cond b (turn n m (columnOver n m h (s .0) (s .1)) (s .0), columnOver n m h (s .0) (s .1)) s .0) ≡ length (s .0)
-    go true = turn-square n m _ (s .0)
+    go : (b : Bool) → length (cond b (turnColumns n m (columnOver n m h (s .0) (s .1)) (s .0), columnOver n m h (s .0) (s .1)) s .0) ≡ length (s .0)
+    go true = turnColumns-square n m _ (s .0)
     go false = refl
 
 accumulate-square : (n i : ℕ) (s : Vec × Vec) → length (accumulate n i s .0) ≡ length (s .0)
@@ -158,7 +158,7 @@ apply-diagonal : (n m : ℕ) (h : Float) (s : Vec × Vec) → length (apply n m 
 unfolding apply
 apply-diagonal n m h s = go (ne h zero64)
   where
-    go : (b : Bool) → length (cond b (turn n m (columnOver n m h (s .0) (s .1)) (s .0), columnOver n m h (s .0) (s .1)) s .1) ≡ length (s .1)
+    go : (b : Bool) → length (cond b (turnColumns n m (columnOver n m h (s .0) (s .1)) (s .0), columnOver n m h (s .0) (s .1)) s .1) ≡ length (s .1)
     go true = columnOver-diagonal n m h (s .0) (s .1)
     go false = refl
 

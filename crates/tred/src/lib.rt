@@ -3,8 +3,8 @@
 ghost use mathlib.Core.Path.{_≡_};
 ghost use Prim.Native.Nat.{_+_, _*_, _-_, _<_, _≤_};
 ghost use lib.ListN.{length};
-ghost use Rattle.grid.specs.Cell.{Sized};
-ghost use Rattle.tred.specs.Tred.{scaleOf, skipRow, overScale, clear, against, generate, similarColumn, similarity, overH, lessen, updateColumn, updates, reflect, skip, reduce, householder, reduction, columnOver, dot, takeOff, turn, clearColumn, apply, accumulate, accumulation, copyLast, moveLast, tred2};
+ghost use Rattle.grid.specs.CellLaws.{Sized};
+ghost use Rattle.tred.specs.Tred.{scaleOf, skipRow, overScale, clear, against, generate, similarColumn, similarity, overH, lessen, updateColumn, updates, reflect, skip, reduce, householder, reduction, columnOver, dot, takeOff, turnColumns, clearColumn, apply, accumulate, accumulation, copyLast, moveLast, tred2};
 use grid::at;
 use grid::at1;
 use grid::put;
@@ -12,7 +12,7 @@ use grid::put1;
 use leaves::magnitude;
 use leaves::root;
 
-pub fn scale_of(i: usize, d: &[f64]) -> f64
+fn scale_of(i: usize, d: &[f64]) -> f64
     requires { ⌜ i ≤ length (now d) ⌝ }
     ensures { λ r. ⌜ r ≡ scaleOf i (now (d .entry)) ⌝ }
 {
@@ -23,7 +23,7 @@ pub fn scale_of(i: usize, d: &[f64]) -> f64
     scale
 }
 
-pub fn skip_row(n: usize, i: usize, v: &mut [f64], d: &mut [f64])
+fn skip_row(n: usize, i: usize, v: &mut [f64], d: &mut [f64])
     requires { ⌜ (0 < i) × (i < n) × (length (now v) ≡ n * n) × (length (now d) ≡ n) ⌝ }
     ensures { λ _. ⌜ (now (v .exit), now (d .exit)) ≡ skipRow n i (now (v .entry), now (d .entry)) ⌝ }
 {
@@ -34,7 +34,7 @@ pub fn skip_row(n: usize, i: usize, v: &mut [f64], d: &mut [f64])
     }
 }
 
-pub fn over_scale(i: usize, scale: f64, d: &mut [f64]) -> f64
+fn over_scale(i: usize, scale: f64, d: &mut [f64]) -> f64
     requires { ⌜ i ≤ length (now d) ⌝ }
     ensures { λ h. ⌜ (h, now (d .exit)) ≡ overScale i scale (now (d .entry)) ⌝ }
 {
@@ -47,7 +47,7 @@ pub fn over_scale(i: usize, scale: f64, d: &mut [f64]) -> f64
     h
 }
 
-pub fn clear(i: usize, e: &mut [f64])
+fn clear(i: usize, e: &mut [f64])
     requires { ⌜ i ≤ length (now e) ⌝ }
     ensures { λ _. ⌜ now (e .exit) ≡ clear i (now (e .entry)) ⌝ }
 {
@@ -57,14 +57,14 @@ pub fn clear(i: usize, e: &mut [f64])
 }
 
 // g with the sign that f has not, so that f - g loses no digits.
-pub fn against(f: f64, g: f64) -> f64
+fn against(f: f64, g: f64) -> f64
     ensures { λ r. ⌜ r ≡ against f g ⌝ }
 {
     if f > 0.0 { -g } else { g }
 }
 
 // The Householder vector; h is returned.
-pub fn generate(i: usize, scale: f64, d: &mut [f64], e: &mut [f64]) -> f64
+fn generate(i: usize, scale: f64, d: &mut [f64], e: &mut [f64]) -> f64
     requires { ⌜ (0 < i) × (i < length (now d)) × (i < length (now e)) ⌝ }
     ensures { λ r. ⌜ (r, now (d .exit), now (e .exit)) ≡ generate i scale (now (d .entry)) (now (e .entry)) ⌝ }
 {
@@ -77,7 +77,7 @@ pub fn generate(i: usize, scale: f64, d: &mut [f64], e: &mut [f64]) -> f64
     h - f * g
 }
 
-pub fn similar_column(
+fn similar_column(
     n: usize,
     i: usize,
     j: usize,
@@ -99,7 +99,7 @@ pub fn similar_column(
     g
 }
 
-pub fn similarity(n: usize, i: usize, v: &mut [f64], d: &[f64], e: &mut [f64])
+fn similarity(n: usize, i: usize, v: &mut [f64], d: &[f64], e: &mut [f64])
     requires { ⌜ (i < n) × Sized n (now v) (now d) (now e) ⌝ }
     ensures { λ _. ⌜ (now (v .exit), now (e .exit)) ≡ similarity n i (now (d .entry)) (now (v .entry), now (e .entry)) ⌝ }
 {
@@ -112,7 +112,7 @@ pub fn similarity(n: usize, i: usize, v: &mut [f64], d: &[f64], e: &mut [f64])
     }
 }
 
-pub fn over_h(i: usize, h: f64, d: &[f64], e: &mut [f64]) -> f64
+fn over_h(i: usize, h: f64, d: &[f64], e: &mut [f64]) -> f64
     requires { ⌜ (i ≤ length (now d)) × (i ≤ length (now e)) ⌝ }
     ensures { λ f. ⌜ (f, now (e .exit)) ≡ overH i h (now (d .entry)) (now (e .entry)) ⌝ }
 {
@@ -125,7 +125,7 @@ pub fn over_h(i: usize, h: f64, d: &[f64], e: &mut [f64]) -> f64
     f
 }
 
-pub fn lessen(i: usize, hh: f64, d: &[f64], e: &mut [f64])
+fn lessen(i: usize, hh: f64, d: &[f64], e: &mut [f64])
     requires { ⌜ (i ≤ length (now d)) × (i ≤ length (now e)) ⌝ }
     ensures { λ _. ⌜ now (e .exit) ≡ lessen i hh (now (d .entry)) (now (e .entry)) ⌝ }
 {
@@ -134,16 +134,7 @@ pub fn lessen(i: usize, hh: f64, d: &[f64], e: &mut [f64])
     }
 }
 
-pub fn update_column(
-    n: usize,
-    i: usize,
-    j: usize,
-    f: f64,
-    g: f64,
-    v: &mut [f64],
-    d: &[f64],
-    e: &[f64],
-)
+fn update_column(n: usize, i: usize, j: usize, f: f64, g: f64, v: &mut [f64], d: &[f64], e: &[f64])
     requires { ⌜ (j < i) × (i < n) × Sized n (now v) (now d) (now e) ⌝ }
     ensures { λ _. ⌜ now (v .exit) ≡ updateColumn n i j f g (now (d .entry)) (now (e .entry)) (now (v .entry)) ⌝ }
 {
@@ -153,7 +144,7 @@ pub fn update_column(
     }
 }
 
-pub fn updates(n: usize, i: usize, v: &mut [f64], d: &mut [f64], e: &[f64])
+fn updates(n: usize, i: usize, v: &mut [f64], d: &mut [f64], e: &[f64])
     requires { ⌜ (0 < i) × (i < n) × Sized n (now v) (now d) (now e) ⌝ }
     ensures { λ _. ⌜ (now (v .exit), now (d .exit)) ≡ updates n i (now (e .entry)) (now (v .entry), now (d .entry)) ⌝ }
 {
@@ -164,7 +155,7 @@ pub fn updates(n: usize, i: usize, v: &mut [f64], d: &mut [f64], e: &[f64])
     }
 }
 
-pub fn reflect(n: usize, i: usize, scale: f64, v: &mut [f64], d: &mut [f64], e: &mut [f64]) -> f64
+fn reflect(n: usize, i: usize, scale: f64, v: &mut [f64], d: &mut [f64], e: &mut [f64]) -> f64
     requires { ⌜ (0 < i) × (i < n) × Sized n (now v) (now d) (now e) ⌝ }
     ensures { λ r. ⌜ (r, now (v .exit), now (d .exit), now (e .exit)) ≡ reflect n i scale (now (v .entry), now (d .entry), now (e .entry)) ⌝ }
 {
@@ -176,7 +167,7 @@ pub fn reflect(n: usize, i: usize, scale: f64, v: &mut [f64], d: &mut [f64], e: 
     h
 }
 
-pub fn skip(n: usize, i: usize, v: &mut [f64], d: &mut [f64], e: &mut [f64]) -> f64
+fn skip(n: usize, i: usize, v: &mut [f64], d: &mut [f64], e: &mut [f64]) -> f64
     requires { ⌜ (0 < i) × (i < n) × Sized n (now v) (now d) (now e) ⌝ }
     ensures { λ r. ⌜ (r, now (v .exit), now (d .exit), now (e .exit)) ≡ skip n i (now (v .entry), now (d .entry), now (e .entry)) ⌝ }
 {
@@ -185,7 +176,7 @@ pub fn skip(n: usize, i: usize, v: &mut [f64], d: &mut [f64], e: &mut [f64]) -> 
     0.0
 }
 
-pub fn reduce(n: usize, i: usize, scale: f64, v: &mut [f64], d: &mut [f64], e: &mut [f64]) -> f64
+fn reduce(n: usize, i: usize, scale: f64, v: &mut [f64], d: &mut [f64], e: &mut [f64]) -> f64
     requires { ⌜ (0 < i) × (i < n) × Sized n (now v) (now d) (now e) ⌝ }
     ensures { λ r. ⌜ (r, now (v .exit), now (d .exit), now (e .exit)) ≡ reduce n i scale (now (v .entry), now (d .entry), now (e .entry)) ⌝ }
 {
@@ -196,7 +187,7 @@ pub fn reduce(n: usize, i: usize, scale: f64, v: &mut [f64], d: &mut [f64], e: &
     }
 }
 
-pub fn householder(n: usize, i: usize, v: &mut [f64], d: &mut [f64], e: &mut [f64])
+fn householder(n: usize, i: usize, v: &mut [f64], d: &mut [f64], e: &mut [f64])
     requires { ⌜ (0 < i) × (i < n) × Sized n (now v) (now d) (now e) ⌝ }
     ensures { λ _. ⌜ (now (v .exit), now (d .exit), now (e .exit)) ≡ householder n i (now (v .entry), now (d .entry), now (e .entry)) ⌝ }
 {
@@ -205,7 +196,7 @@ pub fn householder(n: usize, i: usize, v: &mut [f64], d: &mut [f64], e: &mut [f6
     put1(d, i, h);
 }
 
-pub fn reduction(n: usize, v: &mut [f64], d: &mut [f64], e: &mut [f64])
+fn reduction(n: usize, v: &mut [f64], d: &mut [f64], e: &mut [f64])
     requires { ⌜ (0 < n) × Sized n (now v) (now d) (now e) ⌝ }
     ensures { λ _. ⌜ (now (v .exit), now (d .exit), now (e .exit)) ≡ reduction n (now (v .entry), now (d .entry), now (e .entry)) ⌝ }
 {
@@ -216,7 +207,7 @@ pub fn reduction(n: usize, v: &mut [f64], d: &mut [f64], e: &mut [f64])
     }
 }
 
-pub fn column_over(n: usize, m: usize, h: f64, v: &[f64], d: &mut [f64])
+fn column_over(n: usize, m: usize, h: f64, v: &[f64], d: &mut [f64])
     requires { ⌜ (m < n) × (length (now v) ≡ n * n) × (length (now d) ≡ n) ⌝ }
     ensures { λ _. ⌜ now (d .exit) ≡ columnOver n m h (now (v .entry)) (now (d .entry)) ⌝ }
 {
@@ -225,7 +216,7 @@ pub fn column_over(n: usize, m: usize, h: f64, v: &[f64], d: &mut [f64])
     }
 }
 
-pub fn dot(n: usize, m: usize, j: usize, v: &[f64]) -> f64
+fn dot(n: usize, m: usize, j: usize, v: &[f64]) -> f64
     requires { ⌜ (m < n) × (j < n) × (length (now v) ≡ n * n) ⌝ }
     ensures { λ r. ⌜ r ≡ dot n m j (now (v .entry)) ⌝ }
 {
@@ -236,7 +227,7 @@ pub fn dot(n: usize, m: usize, j: usize, v: &[f64]) -> f64
     g
 }
 
-pub fn take_off(n: usize, m: usize, j: usize, g: f64, v: &mut [f64], d: &[f64])
+fn take_off(n: usize, m: usize, j: usize, g: f64, v: &mut [f64], d: &[f64])
     requires { ⌜ (m < n) × (j < n) × (length (now v) ≡ n * n) × (length (now d) ≡ n) ⌝ }
     ensures { λ _. ⌜ now (v .exit) ≡ takeOff n m j g (now (d .entry)) (now (v .entry)) ⌝ }
 {
@@ -245,9 +236,9 @@ pub fn take_off(n: usize, m: usize, j: usize, g: f64, v: &mut [f64], d: &[f64])
     }
 }
 
-pub fn turn(n: usize, m: usize, v: &mut [f64], d: &[f64])
+fn turn_columns(n: usize, m: usize, v: &mut [f64], d: &[f64])
     requires { ⌜ (m < n) × (length (now v) ≡ n * n) × (length (now d) ≡ n) ⌝ }
-    ensures { λ _. ⌜ now (v .exit) ≡ turn n m (now (d .entry)) (now (v .entry)) ⌝ }
+    ensures { λ _. ⌜ now (v .exit) ≡ turnColumns n m (now (d .entry)) (now (v .entry)) ⌝ }
 {
     for j in 0..m {
         let g = dot(n, m, j, v);
@@ -255,7 +246,7 @@ pub fn turn(n: usize, m: usize, v: &mut [f64], d: &[f64])
     }
 }
 
-pub fn clear_column(n: usize, m: usize, v: &mut [f64])
+fn clear_column(n: usize, m: usize, v: &mut [f64])
     requires { ⌜ (m < n) × (length (now v) ≡ n * n) ⌝ }
     ensures { λ _. ⌜ now (v .exit) ≡ clearColumn n m (now (v .entry)) ⌝ }
 {
@@ -264,17 +255,17 @@ pub fn clear_column(n: usize, m: usize, v: &mut [f64])
     }
 }
 
-pub fn apply(n: usize, m: usize, h: f64, v: &mut [f64], d: &mut [f64])
+fn apply(n: usize, m: usize, h: f64, v: &mut [f64], d: &mut [f64])
     requires { ⌜ (m < n) × (length (now v) ≡ n * n) × (length (now d) ≡ n) ⌝ }
     ensures { λ _. ⌜ (now (v .exit), now (d .exit)) ≡ apply n m h (now (v .entry), now (d .entry)) ⌝ }
 {
     if h != 0.0 {
         column_over(n, m, h, v, d);
-        turn(n, m, v, d);
+        turn_columns(n, m, v, d);
     }
 }
 
-pub fn accumulate(n: usize, i: usize, v: &mut [f64], d: &mut [f64])
+fn accumulate(n: usize, i: usize, v: &mut [f64], d: &mut [f64])
     requires { ⌜ (i + 1 < n) × (length (now v) ≡ n * n) × (length (now d) ≡ n) ⌝ }
     ensures { λ _. ⌜ (now (v .exit), now (d .exit)) ≡ accumulate n i (now (v .entry), now (d .entry)) ⌝ }
 {
@@ -284,7 +275,7 @@ pub fn accumulate(n: usize, i: usize, v: &mut [f64], d: &mut [f64])
     clear_column(n, i + 1, v);
 }
 
-pub fn accumulation(n: usize, v: &mut [f64], d: &mut [f64])
+fn accumulation(n: usize, v: &mut [f64], d: &mut [f64])
     requires { ⌜ (0 < n) × (length (now v) ≡ n * n) × (length (now d) ≡ n) ⌝ }
     ensures { λ _. ⌜ (now (v .exit), now (d .exit)) ≡ accumulation n (now (v .entry), now (d .entry)) ⌝ }
 {
@@ -293,7 +284,7 @@ pub fn accumulation(n: usize, v: &mut [f64], d: &mut [f64])
     }
 }
 
-pub fn copy_last(n: usize, v: &[f64], d: &mut [f64])
+fn copy_last(n: usize, v: &[f64], d: &mut [f64])
     requires { ⌜ (0 < n) × (length (now v) ≡ n * n) × (length (now d) ≡ n) ⌝ }
     ensures { λ _. ⌜ now (d .exit) ≡ copyLast n (now (v .entry)) (now (d .entry)) ⌝ }
 {
@@ -302,7 +293,7 @@ pub fn copy_last(n: usize, v: &[f64], d: &mut [f64])
     }
 }
 
-pub fn move_last(n: usize, v: &mut [f64], d: &mut [f64])
+fn move_last(n: usize, v: &mut [f64], d: &mut [f64])
     requires { ⌜ (0 < n) × (length (now v) ≡ n * n) × (length (now d) ≡ n) ⌝ }
     ensures { λ _. ⌜ (now (v .exit), now (d .exit)) ≡ moveLast n (now (v .entry), now (d .entry)) ⌝ }
 {

@@ -1,9 +1,11 @@
+-- Generated from the answers file beside it by tools/prove/prove.py: edit that.
 -- `answers::decomposition_length` meets its contract.
 use mathlib.Core.Path.{_≡_}
 use Prim.Native.Nat.{ℕ, _≤_}
 use native.Mathlib.Omega.{arith}
 use borrow.Author.Needs.{needs}
-use Rattle.answers.specs.Answers.{least, present, decompositionLength, least-le, present-le, product-le}
+use Rattle.answers.specs.Answers.{least, present, decompositionLength}
+use Rattle.answers.specs.AnswersLaws.{least-le, present-le, product-le}
 use Rattle.answers.proofs.decomposition_length.Statement.{statement}
 use Rattle.answers.proofs.decomposition_length.Tie as tie
 

@@ -1,3 +1,4 @@
+-- Generated from the answers file beside it by tools/prove/prove.py: edit that.
 -- `answers::limit_good` meets its contract.
 use borrow.Author.Tests.{lt-leb, le-leb}
 use Rattle.answers.specs.Answers.{limitGood}

@@ -1,3 +1,4 @@
+-- Generated from the answers file beside it by tools/prove/prove.py: edit that.
 -- `eigen::enter` meets its contract.
 use mathlib.Core.Path.{_≡_, _∙_, ap}
 use Prim.Native.Nat.{ℕ, _+_, _*_}
@@ -38,6 +39,9 @@ returns : tie.Need-returns
 unfolding entered
 returns c = rw (← c .before .before .before .first-bad-lower .ensures, ← c .before .before .refusal7 .ensures, ne-eqb _ _ (c .if1 .taken)) (zeroed _ _ (now (c .before .before .before .before .before .before .before .before .before .before .before .before .before .before .before .args .work)) (now (c .before .before .before .before .before .before .before .before .before .before .before .before .before .before .before .args .result)) (c .before .before .before .before .before .before .before .before .before .before .fill .ensures) (c .before .before .before .before .before .before .fill2 .ensures) (c .before .before .before .before .before .before .before .before .before .before .before .before .before .before .before .pre .3) (c .before .before .before .before .before .before .before .before .before .before .before .before .before .before .before .pre .4))
 
+done-requires : tie.Need-done-requires
+done-requires c κs = search needs
+
 same-length-3 : tie.Need-same-length-3
 same-length-3 c = omega arith
 
@@ -46,7 +50,7 @@ same-length-4 c = omega arith
 
 returns-2 : tie.Need-returns-2
 unfolding entered
-returns-2 c = rw (← c .before .before .before .before .first-bad-lower .ensures, ← c .before .before .before .refusal7 .ensures, eq-eqb _ _ (c .before .if1 .left), eq-eqb _ _ (c .if2 .taken)) (zeroed _ _ (now (c .before .before .before .before .before .before .before .before .before .before .before .before .before .before .before .before .args .work)) (now (c .before .before .before .before .before .before .before .before .before .before .before .before .before .before .before .before .args .result)) (c .before .before .before .before .before .before .before .before .before .before .before .fill .ensures) (c .before .before .before .before .before .before .before .fill2 .ensures) (c .before .before .before .before .before .before .before .before .before .before .before .before .before .before .before .before .pre .3) (c .before .before .before .before .before .before .before .before .before .before .before .before .before .before .before .before .pre .4))
+returns-2 c = rw (← c .before .before .before .before .before .first-bad-lower .ensures, ← c .before .before .before .before .refusal7 .ensures, eq-eqb _ _ (c .before .before .if1 .left), eq-eqb _ _ (c .before .if2 .taken), c .done .ensures) (zeroed _ _ (now (c .before .before .before .before .before .before .before .before .before .before .before .before .before .before .before .before .before .args .work)) (now (c .before .before .before .before .before .before .before .before .before .before .before .before .before .before .before .before .before .args .result)) (c .before .before .before .before .before .before .before .before .before .before .before .before .fill .ensures) (c .before .before .before .before .before .before .before .before .fill2 .ensures) (c .before .before .before .before .before .before .before .before .before .before .before .before .before .before .before .before .before .pre .3) (c .before .before .before .before .before .before .before .before .before .before .before .before .before .before .before .before .before .pre .4))
 
 run-requires : tie.Need-run-requires
 run-requires c κs = (omega arith, c .before .before .before .before .before .before .before .before .before .before .before .before .before .before .before .before .before .before .pre .0, c .before .before .before .before .before .before .before .before .before .before .before .before .before .before .before .before .before .before .pre .1, c .before .before .before .before .before .before .before .before .before .before .before .before .before .before .before .before .before .before .pre .2, c .before .before .before .before .before .before .before .before .before .before .before .before .before .fill .ensures ∙ ap zeros (c .before .before .before .before .before .before .before .before .before .before .before .before .before .before .before .before .before .before .pre .3), c .before .before .before .before .before .before .before .before .before .fill2 .ensures ∙ ap zeros (c .before .before .before .before .before .before .before .before .before .before .before .before .before .before .before .before .before .before .pre .4))
@@ -72,6 +76,7 @@ enter-spec =
     same-length
     same-length-2
     returns
+    done-requires
     same-length-3
     same-length-4
     returns-2

@@ -1,3 +1,4 @@
+-- Generated from the answers file beside it by tools/prove/prove.py: edit that.
 -- `eigen::mark0` meets its contract.
 use borrow.Author.Needs.{needs}
 use Rattle.eigen.specs.Eigen.{mark0}

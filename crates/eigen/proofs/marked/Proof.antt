@@ -1,3 +1,4 @@
+-- Generated from the answers file beside it by tools/prove/prove.py: edit that.
 -- `eigen::marked` meets its contract.
 use native.Mathlib.Omega.{arith}
 use borrow.Author.Needs.{needs}
@@ -7,6 +8,9 @@ use Rattle.eigen.proofs.marked.Tie as tie
 
 mark0-requires : tie.Need-mark0-requires
 mark0-requires c κs = search needs
+
+refused-requires : tie.Need-refused-requires
+refused-requires c κs = search needs
 
 same-length : tie.Need-same-length
 same-length c = omega arith
@@ -19,7 +23,7 @@ same-length-3 c = omega arith
 
 returns : tie.Need-returns
 unfolding marked
-returns c = rw (← c .before .mark0 .ensures, c .if1 .taken)
+returns c = rw (← c .before .before .mark0 .ensures, c .before .if1 .taken, c .refused .ensures)
 
 tql2-requires : tie.Need-tql2-requires
 tql2-requires c κs = search needs
@@ -42,6 +46,7 @@ marked-spec =
     tie.close
     (tie.spec
     mark0-requires
+    refused-requires
     same-length
     same-length-2
     same-length-3

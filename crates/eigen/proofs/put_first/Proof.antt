@@ -1,3 +1,4 @@
+-- Generated from the answers file beside it by tools/prove/prove.py: edit that.
 -- `eigen::put_first` meets its contract.
 use mathlib.Core.Path.{_≡_, _∙_, refl, sym}
 use Prim.Native.Nat.{ℕ, _-_, _≤_}
@@ -9,7 +10,7 @@ use mathlib.Core.List.{_++_}
 use lib.Seq.{take-all, drop-set-lt}
 use denote.Ref.{now}
 use Rattle.grid.specs.Real.{Vec}
-use Rattle.grid.specs.Cell.{copied}
+use Rattle.grid.specs.CellLaws.{copied}
 use Rattle.eigen.proofs.put_first.Statement.{statement}
 use Rattle.eigen.proofs.put_first.Tie as tie
 

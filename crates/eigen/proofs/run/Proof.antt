@@ -1,3 +1,4 @@
+-- Generated from the answers file beside it by tools/prove/prove.py: edit that.
 -- `eigen::run` meets its contract.
 use mathlib.Core.Path.{sym}
 use borrow.Author.Needs.{needs}
@@ -5,35 +6,35 @@ use Rattle.eigen.specs.Lent.{front-fits, v-length, d-length, e-length, d
 use Rattle.eigen.proofs.run.Statement.{statement}
 use Rattle.eigen.proofs.run.Tie as tie
 
-mul-solve : tie.Need-mul-solve
-mul-solve c = search needs
+mul-decompose-rows : tie.Need-mul-decompose-rows
+mul-decompose-rows c = search needs
 
-sub-solve : tie.Need-sub-solve
-sub-solve c = front-fits _ _ _ (c .before .before .before .pre .1) (c .before .before .before .pre .4) (c .before .before .before .pre .5)
+sub-decompose-rows : tie.Need-sub-decompose-rows
+sub-decompose-rows c = front-fits _ _ _ (c .before .before .before .pre .1) (c .before .before .before .pre .4) (c .before .before .before .pre .5)
 
-part-solve-start : tie.Need-part-solve-start
-part-solve-start c = front-fits _ _ _ (c .before .before .before .pre .1) (c .before .before .before .pre .4) (c .before .before .before .pre .5)
+part-decompose-rows-start : tie.Need-part-decompose-rows-start
+part-decompose-rows-start c = front-fits _ _ _ (c .before .before .before .pre .1) (c .before .before .before .pre .4) (c .before .before .before .pre .5)
 
-part-solve-end : tie.Need-part-solve-end
-part-solve-end c = search needs
+part-decompose-rows-end : tie.Need-part-decompose-rows-end
+part-decompose-rows-end c = search needs
 
 array-borrow-prefix-d : tie.Need-array-borrow-prefix-d
 array-borrow-prefix-d c = search needs
 
-slice-aggregate-solve : tie.Need-slice-aggregate-solve
-slice-aggregate-solve c = sym (d-length _ _ _ (c .before .before .before .before .before .pre .1) (c .before .before .before .before .before .pre .4) (c .before .before .before .before .before .pre .5))
+slice-aggregate-decompose-rows : tie.Need-slice-aggregate-decompose-rows
+slice-aggregate-decompose-rows c = sym (d-length _ _ _ (c .before .before .before .before .before .pre .1) (c .before .before .before .before .before .pre .4) (c .before .before .before .before .before .pre .5))
 
-solve-requires : tie.Need-solve-requires
-solve-requires c κs = (c .before .before .before .before .before .before .pre .0, c .before .before .before .before .before .before .pre .1, c .before .before .before .before .before .before .pre .2, c .before .before .before .before .before .before .pre .3, record { square = v-length _ _ _ (c .before .before .before .before .before .before .pre .1) (c .before .before .before .before .before .before .pre .4) (c .before .before .before .before .before .before .pre .5); diagonal = d-length _ _ _ (c .before .before .before .before .before .before .pre .1) (c .before .before .before .before .before .before .pre .4) (c .before .before .before .before .before .before .pre .5); beside = e-length _ _ _ (c .before .before .before .before .before .before .pre .1) (c .before .before .before .before .before .before .pre .4) (c .before .before .before .before .before .before .pre .5) })
+decompose-rows-requires : tie.Need-decompose-rows-requires
+decompose-rows-requires c κs = (c .before .before .before .before .before .before .pre .0, c .before .before .before .before .before .before .pre .1, c .before .before .before .before .before .before .pre .2, c .before .before .before .before .before .before .pre .3, record { square = v-length _ _ _ (c .before .before .before .before .before .before .pre .1) (c .before .before .before .before .before .before .pre .4) (c .before .before .before .before .before .before .pre .5); diagonal = d-length _ _ _ (c .before .before .before .before .before .before .pre .1) (c .before .before .before .before .before .before .pre .4) (c .before .before .before .before .before .before .pre .5); beside = e-length _ _ _ (c .before .before .before .before .before .before .pre .1) (c .before .before .before .before .before .before .pre .4) (c .before .before .before .before .before .before .pre .5) })
 
 array-share-prefix-d : tie.Need-array-share-prefix-d
-array-share-prefix-d c = d-fits _ _ _ (c .before .before .before .before .before .before .before .before .before .before .before .before .pre .1) (c .before .before .before .before .before .before .before .before .before .before .before .before .pre .4) (c .before .before .before .before .before .before .before .before .before .before .before .before .pre .5) (c .before .before .before .before .before .solve .last .1 .1 .1 .1 .0) (c .before .before .before .before .before .solve .kept .1 .1 .1 .1 .0)
+array-share-prefix-d c = d-fits _ _ _ (c .before .before .before .before .before .before .before .before .before .before .before .before .pre .1) (c .before .before .before .before .before .before .before .before .before .before .before .before .pre .4) (c .before .before .before .before .before .before .before .before .before .before .before .before .pre .5) (c .before .before .before .before .before .decompose-rows .last .1 .1 .1 .1 .0) (c .before .before .before .before .before .decompose-rows .kept .1 .1 .1 .1 .0)
 
 slice-aggregate-give : tie.Need-slice-aggregate-give
-slice-aggregate-give c = sym (d-again _ _ _ (c .before .before .before .before .before .before .before .before .before .before .before .before .before .pre .1) (c .before .before .before .before .before .before .before .before .before .before .before .before .before .pre .4) (c .before .before .before .before .before .before .before .before .before .before .before .before .before .pre .5) (c .before .before .before .before .before .before .solve .last .1 .1 .1 .1 .0) (c .before .before .before .before .before .before .solve .kept .1 .1 .1 .1 .0))
+slice-aggregate-give c = sym (d-again _ _ _ (c .before .before .before .before .before .before .before .before .before .before .before .before .before .pre .1) (c .before .before .before .before .before .before .before .before .before .before .before .before .before .pre .4) (c .before .before .before .before .before .before .before .before .before .before .before .before .before .pre .5) (c .before .before .before .before .before .before .decompose-rows .last .1 .1 .1 .1 .0) (c .before .before .before .before .before .before .decompose-rows .kept .1 .1 .1 .1 .0))
 
 give-requires : tie.Need-give-requires
-give-requires c κs = d-front _ _ _ (c .before .before .before .before .before .before .before .before .before .before .before .before .before .before .before .pre .1) (c .before .before .before .before .before .before .before .before .before .before .before .before .before .before .before .pre .4) (c .before .before .before .before .before .before .before .before .before .before .before .before .before .before .before .pre .5) (c .before .before .before .before .before .before .before .before .solve .last .1 .1 .1 .0) (c .before .before .before .before .before .before .before .before .solve .last .1 .1 .1 .1 .0) (c .before .before .before .before .before .before .before .before .solve .kept .1 .1 .1 .0) (c .before .before .before .before .before .before .before .before .solve .kept .1 .1 .1 .1 .0)
+give-requires c κs = d-front _ _ _ (c .before .before .before .before .before .before .before .before .before .before .before .before .before .before .before .pre .1) (c .before .before .before .before .before .before .before .before .before .before .before .before .before .before .before .pre .4) (c .before .before .before .before .before .before .before .before .before .before .before .before .before .before .before .pre .5) (c .before .before .before .before .before .before .before .before .decompose-rows .last .1 .1 .1 .0) (c .before .before .before .before .before .before .before .before .decompose-rows .last .1 .1 .1 .1 .0) (c .before .before .before .before .before .before .before .before .decompose-rows .kept .1 .1 .1 .0) (c .before .before .before .before .before .before .before .before .decompose-rows .kept .1 .1 .1 .1 .0)
 
 same-length : tie.Need-same-length
 same-length c = search needs
@@ -42,19 +43,19 @@ same-length-2 : tie.Need-same-length-2
 same-length-2 c = search needs
 
 returns : tie.Need-returns
-returns c = run-whole _ _ _ (c .before .before .before .before .before .before .before .before .before .before .before .before .before .before .before .before .before .before .before .before .pre .1) (c .before .before .before .before .before .before .before .before .before .before .before .before .before .before .before .before .before .before .before .before .pre .4) (c .before .before .before .before .before .before .before .before .before .before .before .before .before .before .before .before .before .before .before .before .pre .5) _ _ _ _ _ _ _ (c .before .before .before .before .before .before .before .before .before .before .before .before .before .solve .kept .1 .1 .1 .0) (c .before .before .before .before .before .before .before .before .before .before .before .before .before .solve .kept .1 .1 .1 .1 .0) (c .before .before .before .before .before .before .before .before .before .before .before .before .before .solve .kept .1 .1 .1 .1 .1 .0) (c .before .before .before .before .before .before .before .before .before .before .before .before .before .solve .ensures) (c .before .before .before .before .give .ensures)
+returns c = run-whole _ _ _ (c .before .before .before .before .before .before .before .before .before .before .before .before .before .before .before .before .before .before .before .before .pre .1) (c .before .before .before .before .before .before .before .before .before .before .before .before .before .before .before .before .before .before .before .before .pre .4) (c .before .before .before .before .before .before .before .before .before .before .before .before .before .before .before .before .before .before .before .before .pre .5) _ _ _ _ _ _ _ (c .before .before .before .before .before .before .before .before .before .before .before .before .before .decompose-rows .kept .1 .1 .1 .0) (c .before .before .before .before .before .before .before .before .before .before .before .before .before .decompose-rows .kept .1 .1 .1 .1 .0) (c .before .before .before .before .before .before .before .before .before .before .before .before .before .decompose-rows .kept .1 .1 .1 .1 .1 .0) (c .before .before .before .before .before .before .before .before .before .before .before .before .before .decompose-rows .ensures) (c .before .before .before .before .give .ensures)
 
 pub run-spec : {M : Type 1} → statement M
 run-spec =
     tie.close
     (tie.spec
-    mul-solve
-    sub-solve
-    part-solve-start
-    part-solve-end
+    mul-decompose-rows
+    sub-decompose-rows
+    part-decompose-rows-start
+    part-decompose-rows-end
     array-borrow-prefix-d
-    slice-aggregate-solve
-    solve-requires
+    slice-aggregate-decompose-rows
+    decompose-rows-requires
     array-share-prefix-d
     slice-aggregate-give
     give-requires

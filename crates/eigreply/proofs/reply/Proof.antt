@@ -1,3 +1,4 @@
+-- Generated from the answers file beside it by tools/prove/prove.py: edit that.
 -- `eigreply::reply` meets its contract.
 use mathlib.Core.Path.{_∙_, ap}
 use Prim.Native.Nat.{ℕ}
@@ -5,7 +6,7 @@ use borrow.Author.Needs.{needs}
 use mathlib.Core.List.{List}
 use Rattle.grid.specs.Real.{zeros}
 use Rattle.text.specs.Writing.{written}
-use Rattle.eigreply.specs.Reply.{is-good, is-bad}
+use Rattle.eigreply.specs.ReplyLaws.{is-good, is-bad}
 use lib.Dec.{lit≤}
 use denote.Ref.{now}
 use Rattle.eigreply.proofs.reply.Statement.{statement}

@@ -1,3 +1,4 @@
+-- Generated from the answers file beside it by tools/prove/prove.py: edit that.
 -- `eigreply::solve_front` meets its contract.
 use mathlib.Core.Path.{_∙_, sym, ap}
 use Prim.Native.Nat.{ℕ, _+_, _*_}
@@ -7,7 +8,7 @@ use mathlib.Core.List.{List}
 use Rattle.grid.specs.Real.{zeros}
 use Rattle.text.specs.Writing.{written}
 use Rattle.text.specs.Stores.{words-most}
-use Rattle.eigreply.specs.Reply.{solved-front}
+use Rattle.eigreply.specs.ReplyLaws.{solved-front}
 use lib.ListN.{take}
 use denote.Ref.{now}
 use Rattle.eigreply.proofs.solve_front.Statement.{statement}

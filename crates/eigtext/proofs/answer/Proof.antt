@@ -1,8 +1,9 @@
+-- Generated from the answers file beside it by tools/prove/prove.py: edit that.
 -- `eigtext::answer` meets its contract.
 use native.Mathlib.Omega.{arith}
 use borrow.Author.Needs.{needs}
 use denote.Ref.{now}
-use Rattle.eigreply.specs.Reply.{counts}
+use Rattle.eigreply.specs.ReplyLaws.{counts}
 use Rattle.eigtext.proofs.answer.Statement.{statement}
 use Rattle.eigtext.proofs.answer.Tie as tie
 

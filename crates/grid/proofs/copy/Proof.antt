@@ -1,3 +1,4 @@
+-- Generated from the answers file beside it by tools/prove/prove.py: edit that.
 -- `grid::copy` meets its contract.
 use mathlib.Core.Path.{_≡_, _∙_, refl}
 use Prim.Native.Nat.{_-_, _≤_}
@@ -7,7 +8,7 @@ use lib.ListN.{length}
 use lib.ListN.{take}
 use lib.Seq.{take-all}
 use denote.Ref.{now}
-use Rattle.grid.specs.Cell.{copied, all-of}
+use Rattle.grid.specs.CellLaws.{copied, all-of}
 use Rattle.grid.proofs.copy.Statement.{statement}
 use Rattle.grid.proofs.copy.Tie as tie
 

@@ -1,7 +1,8 @@
+-- Generated from the answers file beside it by tools/prove/prove.py: edit that.
 -- `grid::entry` meets its contract.
 use native.Mathlib.Omega.{arith}
 use borrow.Author.Needs.{needs}
-use Rattle.grid.specs.Cell.{cell}
+use Rattle.grid.specs.CellLaws.{cell}
 use Rattle.grid.proofs.entry.Statement.{statement}
 use Rattle.grid.proofs.entry.Tie as tie
 

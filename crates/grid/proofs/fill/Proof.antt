@@ -1,3 +1,4 @@
+-- Generated from the answers file beside it by tools/prove/prove.py: edit that.
 -- `grid::fill` meets its contract.
 use mathlib.Core.Path.{_≡_, _∙_, refl, ap}
 use Prim.Native.Nat.{_-_, _≤_}
@@ -6,7 +7,7 @@ use borrow.Author.Needs.{needs}
 use lib.ListN.{length}
 use lib.ListN.{take}
 use Rattle.grid.specs.Real.{zeros}
-use Rattle.grid.specs.Cell.{zeroed, all-of}
+use Rattle.grid.specs.CellLaws.{zeroed, all-of}
 use native.Mathlib.Nat.{le-antisymm}
 use Rattle.grid.proofs.fill.Statement.{statement}
 use Rattle.grid.proofs.fill.Tie as tie

@@ -1,7 +1,8 @@
+-- Generated from the answers file beside it by tools/prove/prove.py: edit that.
 -- `grid::put_entry` meets its contract.
 use native.Mathlib.Omega.{arith}
 use borrow.Author.Needs.{needs}
-use Rattle.grid.specs.Cell.{cell}
+use Rattle.grid.specs.CellLaws.{cell}
 use Rattle.grid.proofs.put_entry.Statement.{statement}
 use Rattle.grid.proofs.put_entry.Tie as tie
 

@@ -1,3 +1,4 @@
+-- Generated from the answers file beside it by tools/prove/prove.py: edit that.
 -- `jacobi::all_bad` meets its contract.
 use borrow.Author.Needs.{needs}
 use Rattle.jacobi.specs.Jacobi.{allBad}

@@ -1,3 +1,4 @@
+-- Generated from the answers file beside it by tools/prove/prove.py: edit that.
 -- `jacobi::factors_bad` meets its contract.
 use mathlib.Core.Path.{sym}
 use Prim.Native.Nat.{_*_}

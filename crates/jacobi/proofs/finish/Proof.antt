@@ -1,3 +1,4 @@
+-- Generated from the answers file beside it by tools/prove/prove.py: edit that.
 -- `jacobi::finish` meets its contract.
 use native.Mathlib.Omega.{arith}
 use borrow.Author.Needs.{needs}
@@ -14,12 +15,15 @@ all-bad-requires c κs = search needs
 is-bad-requires : tie.Need-is-bad-requires
 is-bad-requires c κs = search needs
 
+answered-requires : tie.Need-answered-requires
+answered-requires c κs = search needs
+
 same-length : tie.Need-same-length
 same-length c = omega arith
 
 returns : tie.Need-returns
 unfolding finished
-returns c = rw (← c .before .before .before .before .before .before .normalise .ensures, ← c .before .before .all-bad .ensures, ← c .before .is-bad .ensures, c .if1 .taken)
+returns c = rw (← c .before .before .before .before .before .before .before .normalise .ensures, ← c .before .before .before .all-bad .ensures, ← c .before .before .is-bad .ensures, c .before .if1 .taken, c .answered .ensures)
 
 same-length-2 : tie.Need-same-length-2
 same-length-2 c = omega arith
@@ -35,6 +39,7 @@ finish-spec =
     normalise-requires
     all-bad-requires
     is-bad-requires
+    answered-requires
     same-length
     returns
     same-length-2

@@ -1,9 +1,11 @@
+-- Generated from the answers file beside it by tools/prove/prove.py: edit that.
 -- `jacobi::gram` meets its contract.
 use mathlib.Core.Path.{_≡_}
 use Prim.Native.Nat.{_-_, _≤_}
 use native.Mathlib.Omega.{arith}
 use borrow.Author.Needs.{needs}
-use Rattle.grid.specs.Loop.{upto, start, next, done}
+use Rattle.grid.specs.Loop.{upto}
+use Rattle.grid.specs.LoopLaws.{start, next, done}
 use Rattle.jacobi.specs.Jacobi.{gramStep, gram}
 use Rattle.jacobi.proofs.gram.Statement.{statement}
 use Rattle.jacobi.proofs.gram.Tie as tie

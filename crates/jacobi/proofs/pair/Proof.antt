@@ -1,19 +1,21 @@
+-- Generated from the answers file beside it by tools/prove/prove.py: edit that.
 -- `jacobi::pair` meets its contract.
 use native.Mathlib.Omega.{arith}
 use borrow.Author.Needs.{needs}
 use Rattle.jacobi.specs.Jacobi.{pairDone}
-use Rattle.jacobi.specs.Place.{column}
+use native.Mathlib.Nat.{mul-comm}
+use Rattle.grid.specs.TableLaws.{row-end}
 use Rattle.jacobi.proofs.pair.Statement.{statement}
 use Rattle.jacobi.proofs.pair.Tie as tie
 
 mul-gram : tie.Need-mul-gram
-mul-gram c = omega (arith, column (c .before .before .args .rows) (c .before .before .args .cols) (c .before .before .args .p) (c .before .before .pre .0), column (c .before .before .args .rows) (c .before .before .args .cols) (c .before .before .args .q) (c .before .before .pre .1), column (c .before .before .args .cols) (c .before .before .args .cols) (c .before .before .args .p) (c .before .before .pre .0), column (c .before .before .args .cols) (c .before .before .args .cols) (c .before .before .args .q) (c .before .before .pre .1), c .before .before .pre .2)
+mul-gram c = omega (arith, mul-comm (c .before .before .args .rows) (c .before .before .args .cols), row-end (c .before .before .args .cols) (c .before .before .args .rows) (c .before .before .args .p) (c .before .before .pre .0), row-end (c .before .before .args .cols) (c .before .before .args .rows) (c .before .before .args .q) (c .before .before .pre .1), row-end (c .before .before .args .cols) (c .before .before .args .cols) (c .before .before .args .p) (c .before .before .pre .0), row-end (c .before .before .args .cols) (c .before .before .args .cols) (c .before .before .args .q) (c .before .before .pre .1), c .before .before .pre .2)
 
 mul-gram-2 : tie.Need-mul-gram-2
-mul-gram-2 c = omega (arith, column (c .before .before .args .rows) (c .before .before .args .cols) (c .before .before .args .p) (c .before .before .pre .0), column (c .before .before .args .rows) (c .before .before .args .cols) (c .before .before .args .q) (c .before .before .pre .1), column (c .before .before .args .cols) (c .before .before .args .cols) (c .before .before .args .p) (c .before .before .pre .0), column (c .before .before .args .cols) (c .before .before .args .cols) (c .before .before .args .q) (c .before .before .pre .1), c .before .before .pre .2)
+mul-gram-2 c = omega (arith, mul-comm (c .before .before .args .rows) (c .before .before .args .cols), row-end (c .before .before .args .cols) (c .before .before .args .rows) (c .before .before .args .p) (c .before .before .pre .0), row-end (c .before .before .args .cols) (c .before .before .args .rows) (c .before .before .args .q) (c .before .before .pre .1), row-end (c .before .before .args .cols) (c .before .before .args .cols) (c .before .before .args .p) (c .before .before .pre .0), row-end (c .before .before .args .cols) (c .before .before .args .cols) (c .before .before .args .q) (c .before .before .pre .1), c .before .before .pre .2)
 
 gram-requires : tie.Need-gram-requires
-gram-requires c κs = omega (arith, column (c .before .before .args .rows) (c .before .before .args .cols) (c .before .before .args .p) (c .before .before .pre .0), column (c .before .before .args .rows) (c .before .before .args .cols) (c .before .before .args .q) (c .before .before .pre .1), column (c .before .before .args .cols) (c .before .before .args .cols) (c .before .before .args .p) (c .before .before .pre .0), column (c .before .before .args .cols) (c .before .before .args .cols) (c .before .before .args .q) (c .before .before .pre .1), c .before .before .pre .2)
+gram-requires c κs = omega (arith, mul-comm (c .before .before .args .rows) (c .before .before .args .cols), row-end (c .before .before .args .cols) (c .before .before .args .rows) (c .before .before .args .p) (c .before .before .pre .0), row-end (c .before .before .args .cols) (c .before .before .args .rows) (c .before .before .args .q) (c .before .before .pre .1), row-end (c .before .before .args .cols) (c .before .before .args .cols) (c .before .before .args .p) (c .before .before .pre .0), row-end (c .before .before .args .cols) (c .before .before .args .cols) (c .before .before .args .q) (c .before .before .pre .1), c .before .before .pre .2)
 
 skipped-requires : tie.Need-skipped-requires
 skipped-requires c κs = search needs
@@ -29,34 +31,34 @@ rotation-of-requires : tie.Need-rotation-of-requires
 rotation-of-requires c κs = search needs
 
 mul-turn : tie.Need-mul-turn
-mul-turn c = omega (arith, column (c .before .before .before .before .before .before .before .args .rows) (c .before .before .before .before .before .before .before .args .cols) (c .before .before .before .before .before .before .before .args .p) (c .before .before .before .before .before .before .before .pre .0), column (c .before .before .before .before .before .before .before .args .rows) (c .before .before .before .before .before .before .before .args .cols) (c .before .before .before .before .before .before .before .args .q) (c .before .before .before .before .before .before .before .pre .1), column (c .before .before .before .before .before .before .before .args .cols) (c .before .before .before .before .before .before .before .args .cols) (c .before .before .before .before .before .before .before .args .p) (c .before .before .before .before .before .before .before .pre .0), column (c .before .before .before .before .before .before .before .args .cols) (c .before .before .before .before .before .before .before .args .cols) (c .before .before .before .before .before .before .before .args .q) (c .before .before .before .before .before .before .before .pre .1), c .before .before .before .before .before .before .before .pre .2)
+mul-turn c = omega (arith, mul-comm (c .before .before .before .before .before .before .before .args .rows) (c .before .before .before .before .before .before .before .args .cols), row-end (c .before .before .before .before .before .before .before .args .cols) (c .before .before .before .before .before .before .before .args .rows) (c .before .before .before .before .before .before .before .args .p) (c .before .before .before .before .before .before .before .pre .0), row-end (c .before .before .before .before .before .before .before .args .cols) (c .before .before .before .before .before .before .before .args .rows) (c .before .before .before .before .before .before .before .args .q) (c .before .before .before .before .before .before .before .pre .1), row-end (c .before .before .before .before .before .before .before .args .cols) (c .before .before .before .before .before .before .before .args .cols) (c .before .before .before .before .before .before .before .args .p) (c .before .before .before .before .before .before .before .pre .0), row-end (c .before .before .before .before .before .before .before .args .cols) (c .before .before .before .before .before .before .before .args .cols) (c .before .before .before .before .before .before .before .args .q) (c .before .before .before .before .before .before .before .pre .1), c .before .before .before .before .before .before .before .pre .2)
 
 mul-turn-2 : tie.Need-mul-turn-2
-mul-turn-2 c = omega (arith, column (c .before .before .before .before .before .before .before .args .rows) (c .before .before .before .before .before .before .before .args .cols) (c .before .before .before .before .before .before .before .args .p) (c .before .before .before .before .before .before .before .pre .0), column (c .before .before .before .before .before .before .before .args .rows) (c .before .before .before .before .before .before .before .args .cols) (c .before .before .before .before .before .before .before .args .q) (c .before .before .before .before .before .before .before .pre .1), column (c .before .before .before .before .before .before .before .args .cols) (c .before .before .before .before .before .before .before .args .cols) (c .before .before .before .before .before .before .before .args .p) (c .before .before .before .before .before .before .before .pre .0), column (c .before .before .before .before .before .before .before .args .cols) (c .before .before .before .before .before .before .before .args .cols) (c .before .before .before .before .before .before .before .args .q) (c .before .before .before .before .before .before .before .pre .1), c .before .before .before .before .before .before .before .pre .2)
+mul-turn-2 c = omega (arith, mul-comm (c .before .before .before .before .before .before .before .args .rows) (c .before .before .before .before .before .before .before .args .cols), row-end (c .before .before .before .before .before .before .before .args .cols) (c .before .before .before .before .before .before .before .args .rows) (c .before .before .before .before .before .before .before .args .p) (c .before .before .before .before .before .before .before .pre .0), row-end (c .before .before .before .before .before .before .before .args .cols) (c .before .before .before .before .before .before .before .args .rows) (c .before .before .before .before .before .before .before .args .q) (c .before .before .before .before .before .before .before .pre .1), row-end (c .before .before .before .before .before .before .before .args .cols) (c .before .before .before .before .before .before .before .args .cols) (c .before .before .before .before .before .before .before .args .p) (c .before .before .before .before .before .before .before .pre .0), row-end (c .before .before .before .before .before .before .before .args .cols) (c .before .before .before .before .before .before .before .args .cols) (c .before .before .before .before .before .before .before .args .q) (c .before .before .before .before .before .before .before .pre .1), c .before .before .before .before .before .before .before .pre .2)
 
 turn-requires : tie.Need-turn-requires
-turn-requires c κs = omega (arith, column (c .before .before .before .before .before .before .before .args .rows) (c .before .before .before .before .before .before .before .args .cols) (c .before .before .before .before .before .before .before .args .p) (c .before .before .before .before .before .before .before .pre .0), column (c .before .before .before .before .before .before .before .args .rows) (c .before .before .before .before .before .before .before .args .cols) (c .before .before .before .before .before .before .before .args .q) (c .before .before .before .before .before .before .before .pre .1), column (c .before .before .before .before .before .before .before .args .cols) (c .before .before .before .before .before .before .before .args .cols) (c .before .before .before .before .before .before .before .args .p) (c .before .before .before .before .before .before .before .pre .0), column (c .before .before .before .before .before .before .before .args .cols) (c .before .before .before .before .before .before .before .args .cols) (c .before .before .before .before .before .before .before .args .q) (c .before .before .before .before .before .before .before .pre .1), c .before .before .before .before .before .before .before .pre .2)
+turn-requires c κs = omega (arith, mul-comm (c .before .before .before .before .before .before .before .args .rows) (c .before .before .before .before .before .before .before .args .cols), row-end (c .before .before .before .before .before .before .before .args .cols) (c .before .before .before .before .before .before .before .args .rows) (c .before .before .before .before .before .before .before .args .p) (c .before .before .before .before .before .before .before .pre .0), row-end (c .before .before .before .before .before .before .before .args .cols) (c .before .before .before .before .before .before .before .args .rows) (c .before .before .before .before .before .before .before .args .q) (c .before .before .before .before .before .before .before .pre .1), row-end (c .before .before .before .before .before .before .before .args .cols) (c .before .before .before .before .before .before .before .args .cols) (c .before .before .before .before .before .before .before .args .p) (c .before .before .before .before .before .before .before .pre .0), row-end (c .before .before .before .before .before .before .before .args .cols) (c .before .before .before .before .before .before .before .args .cols) (c .before .before .before .before .before .before .before .args .q) (c .before .before .before .before .before .before .before .pre .1), c .before .before .before .before .before .before .before .pre .2)
 
 mul-turn-3 : tie.Need-mul-turn-3
-mul-turn-3 c = omega (arith, column (c .before .before .before .before .before .before .before .before .before .before .before .args .rows) (c .before .before .before .before .before .before .before .before .before .before .before .args .cols) (c .before .before .before .before .before .before .before .before .before .before .before .args .p) (c .before .before .before .before .before .before .before .before .before .before .before .pre .0), column (c .before .before .before .before .before .before .before .before .before .before .before .args .rows) (c .before .before .before .before .before .before .before .before .before .before .before .args .cols) (c .before .before .before .before .before .before .before .before .before .before .before .args .q) (c .before .before .before .before .before .before .before .before .before .before .before .pre .1), column (c .before .before .before .before .before .before .before .before .before .before .before .args .cols) (c .before .before .before .before .before .before .before .before .before .before .before .args .cols) (c .before .before .before .before .before .before .before .before .before .before .before .args .p) (c .before .before .before .before .before .before .before .before .before .before .before .pre .0), column (c .before .before .before .before .before .before .before .before .before .before .before .args .cols) (c .before .before .before .before .before .before .before .before .before .before .before .args .cols) (c .before .before .before .before .before .before .before .before .before .before .before .args .q) (c .before .before .before .before .before .before .before .before .before .before .before .pre .1), c .before .before .before .before .before .before .before .before .before .before .before .pre .2)
+mul-turn-3 c = omega (arith, mul-comm (c .before .before .before .before .before .before .before .before .before .before .before .args .rows) (c .before .before .before .before .before .before .before .before .before .before .before .args .cols), row-end (c .before .before .before .before .before .before .before .before .before .before .before .args .cols) (c .before .before .before .before .before .before .before .before .before .before .before .args .rows) (c .before .before .before .before .before .before .before .before .before .before .before .args .p) (c .before .before .before .before .before .before .before .before .before .before .before .pre .0), row-end (c .before .before .before .before .before .before .before .before .before .before .before .args .cols) (c .before .before .before .before .before .before .before .before .before .before .before .args .rows) (c .before .before .before .before .before .before .before .before .before .before .before .args .q) (c .before .before .before .before .before .before .before .before .before .before .before .pre .1), row-end (c .before .before .before .before .before .before .before .before .before .before .before .args .cols) (c .before .before .before .before .before .before .before .before .before .before .before .args .cols) (c .before .before .before .before .before .before .before .before .before .before .before .args .p) (c .before .before .before .before .before .before .before .before .before .before .before .pre .0), row-end (c .before .before .before .before .before .before .before .before .before .before .before .args .cols) (c .before .before .before .before .before .before .before .before .before .before .before .args .cols) (c .before .before .before .before .before .before .before .before .before .before .before .args .q) (c .before .before .before .before .before .before .before .before .before .before .before .pre .1), c .before .before .before .before .before .before .before .before .before .before .before .pre .2)
 
 mul-turn-4 : tie.Need-mul-turn-4
-mul-turn-4 c = omega (arith, column (c .before .before .before .before .before .before .before .before .before .before .before .args .rows) (c .before .before .before .before .before .before .before .before .before .before .before .args .cols) (c .before .before .before .before .before .before .before .before .before .before .before .args .p) (c .before .before .before .before .before .before .before .before .before .before .before .pre .0), column (c .before .before .before .before .before .before .before .before .before .before .before .args .rows) (c .before .before .before .before .before .before .before .before .before .before .before .args .cols) (c .before .before .before .before .before .before .before .before .before .before .before .args .q) (c .before .before .before .before .before .before .before .before .before .before .before .pre .1), column (c .before .before .before .before .before .before .before .before .before .before .before .args .cols) (c .before .before .before .before .before .before .before .before .before .before .before .args .cols) (c .before .before .before .before .before .before .before .before .before .before .before .args .p) (c .before .before .before .before .before .before .before .before .before .before .before .pre .0), column (c .before .before .before .before .before .before .before .before .before .before .before .args .cols) (c .before .before .before .before .before .before .before .before .before .before .before .args .cols) (c .before .before .before .before .before .before .before .before .before .before .before .args .q) (c .before .before .before .before .before .before .before .before .before .before .before .pre .1), c .before .before .before .before .before .before .before .before .before .before .before .pre .2)
+mul-turn-4 c = omega (arith, mul-comm (c .before .before .before .before .before .before .before .before .before .before .before .args .rows) (c .before .before .before .before .before .before .before .before .before .before .before .args .cols), row-end (c .before .before .before .before .before .before .before .before .before .before .before .args .cols) (c .before .before .before .before .before .before .before .before .before .before .before .args .rows) (c .before .before .before .before .before .before .before .before .before .before .before .args .p) (c .before .before .before .before .before .before .before .before .before .before .before .pre .0), row-end (c .before .before .before .before .before .before .before .before .before .before .before .args .cols) (c .before .before .before .before .before .before .before .before .before .before .before .args .rows) (c .before .before .before .before .before .before .before .before .before .before .before .args .q) (c .before .before .before .before .before .before .before .before .before .before .before .pre .1), row-end (c .before .before .before .before .before .before .before .before .before .before .before .args .cols) (c .before .before .before .before .before .before .before .before .before .before .before .args .cols) (c .before .before .before .before .before .before .before .before .before .before .before .args .p) (c .before .before .before .before .before .before .before .before .before .before .before .pre .0), row-end (c .before .before .before .before .before .before .before .before .before .before .before .args .cols) (c .before .before .before .before .before .before .before .before .before .before .before .args .cols) (c .before .before .before .before .before .before .before .before .before .before .before .args .q) (c .before .before .before .before .before .before .before .before .before .before .before .pre .1), c .before .before .before .before .before .before .before .before .before .before .before .pre .2)
 
 add-turn : tie.Need-add-turn
-add-turn c = omega (arith, column (c .before .before .before .before .before .before .before .before .before .before .before .args .rows) (c .before .before .before .before .before .before .before .before .before .before .before .args .cols) (c .before .before .before .before .before .before .before .before .before .before .before .args .p) (c .before .before .before .before .before .before .before .before .before .before .before .pre .0), column (c .before .before .before .before .before .before .before .before .before .before .before .args .rows) (c .before .before .before .before .before .before .before .before .before .before .before .args .cols) (c .before .before .before .before .before .before .before .before .before .before .before .args .q) (c .before .before .before .before .before .before .before .before .before .before .before .pre .1), column (c .before .before .before .before .before .before .before .before .before .before .before .args .cols) (c .before .before .before .before .before .before .before .before .before .before .before .args .cols) (c .before .before .before .before .before .before .before .before .before .before .before .args .p) (c .before .before .before .before .before .before .before .before .before .before .before .pre .0), column (c .before .before .before .before .before .before .before .before .before .before .before .args .cols) (c .before .before .before .before .before .before .before .before .before .before .before .args .cols) (c .before .before .before .before .before .before .before .before .before .before .before .args .q) (c .before .before .before .before .before .before .before .before .before .before .before .pre .1), c .before .before .before .before .before .before .before .before .before .before .before .pre .2)
+add-turn c = omega (arith, mul-comm (c .before .before .before .before .before .before .before .before .before .before .before .args .rows) (c .before .before .before .before .before .before .before .before .before .before .before .args .cols), row-end (c .before .before .before .before .before .before .before .before .before .before .before .args .cols) (c .before .before .before .before .before .before .before .before .before .before .before .args .rows) (c .before .before .before .before .before .before .before .before .before .before .before .args .p) (c .before .before .before .before .before .before .before .before .before .before .before .pre .0), row-end (c .before .before .before .before .before .before .before .before .before .before .before .args .cols) (c .before .before .before .before .before .before .before .before .before .before .before .args .rows) (c .before .before .before .before .before .before .before .before .before .before .before .args .q) (c .before .before .before .before .before .before .before .before .before .before .before .pre .1), row-end (c .before .before .before .before .before .before .before .before .before .before .before .args .cols) (c .before .before .before .before .before .before .before .before .before .before .before .args .cols) (c .before .before .before .before .before .before .before .before .before .before .before .args .p) (c .before .before .before .before .before .before .before .before .before .before .before .pre .0), row-end (c .before .before .before .before .before .before .before .before .before .before .before .args .cols) (c .before .before .before .before .before .before .before .before .before .before .before .args .cols) (c .before .before .before .before .before .before .before .before .before .before .before .args .q) (c .before .before .before .before .before .before .before .before .before .before .before .pre .1), c .before .before .before .before .before .before .before .before .before .before .before .pre .2)
 
 mul-turn-5 : tie.Need-mul-turn-5
-mul-turn-5 c = omega (arith, column (c .before .before .before .before .before .before .before .before .before .before .before .args .rows) (c .before .before .before .before .before .before .before .before .before .before .before .args .cols) (c .before .before .before .before .before .before .before .before .before .before .before .args .p) (c .before .before .before .before .before .before .before .before .before .before .before .pre .0), column (c .before .before .before .before .before .before .before .before .before .before .before .args .rows) (c .before .before .before .before .before .before .before .before .before .before .before .args .cols) (c .before .before .before .before .before .before .before .before .before .before .before .args .q) (c .before .before .before .before .before .before .before .before .before .before .before .pre .1), column (c .before .before .before .before .before .before .before .before .before .before .before .args .cols) (c .before .before .before .before .before .before .before .before .before .before .before .args .cols) (c .before .before .before .before .before .before .before .before .before .before .before .args .p) (c .before .before .before .before .before .before .before .before .before .before .before .pre .0), column (c .before .before .before .before .before .before .before .before .before .before .before .args .cols) (c .before .before .before .before .before .before .before .before .before .before .before .args .cols) (c .before .before .before .before .before .before .before .before .before .before .before .args .q) (c .before .before .before .before .before .before .before .before .before .before .before .pre .1), c .before .before .before .before .before .before .before .before .before .before .before .pre .2)
+mul-turn-5 c = omega (arith, mul-comm (c .before .before .before .before .before .before .before .before .before .before .before .args .rows) (c .before .before .before .before .before .before .before .before .before .before .before .args .cols), row-end (c .before .before .before .before .before .before .before .before .before .before .before .args .cols) (c .before .before .before .before .before .before .before .before .before .before .before .args .rows) (c .before .before .before .before .before .before .before .before .before .before .before .args .p) (c .before .before .before .before .before .before .before .before .before .before .before .pre .0), row-end (c .before .before .before .before .before .before .before .before .before .before .before .args .cols) (c .before .before .before .before .before .before .before .before .before .before .before .args .rows) (c .before .before .before .before .before .before .before .before .before .before .before .args .q) (c .before .before .before .before .before .before .before .before .before .before .before .pre .1), row-end (c .before .before .before .before .before .before .before .before .before .before .before .args .cols) (c .before .before .before .before .before .before .before .before .before .before .before .args .cols) (c .before .before .before .before .before .before .before .before .before .before .before .args .p) (c .before .before .before .before .before .before .before .before .before .before .before .pre .0), row-end (c .before .before .before .before .before .before .before .before .before .before .before .args .cols) (c .before .before .before .before .before .before .before .before .before .before .before .args .cols) (c .before .before .before .before .before .before .before .before .before .before .before .args .q) (c .before .before .before .before .before .before .before .before .before .before .before .pre .1), c .before .before .before .before .before .before .before .before .before .before .before .pre .2)
 
 mul-turn-6 : tie.Need-mul-turn-6
-mul-turn-6 c = omega (arith, column (c .before .before .before .before .before .before .before .before .before .before .before .args .rows) (c .before .before .before .before .before .before .before .before .before .before .before .args .cols) (c .before .before .before .before .before .before .before .before .before .before .before .args .p) (c .before .before .before .before .before .before .before .before .before .before .before .pre .0), column (c .before .before .before .before .before .before .before .before .before .before .before .args .rows) (c .before .before .before .before .before .before .before .before .before .before .before .args .cols) (c .before .before .before .before .before .before .before .before .before .before .before .args .q) (c .before .before .before .before .before .before .before .before .before .before .before .pre .1), column (c .before .before .before .before .before .before .before .before .before .before .before .args .cols) (c .before .before .before .before .before .before .before .before .before .before .before .args .cols) (c .before .before .before .before .before .before .before .before .before .before .before .args .p) (c .before .before .before .before .before .before .before .before .before .before .before .pre .0), column (c .before .before .before .before .before .before .before .before .before .before .before .args .cols) (c .before .before .before .before .before .before .before .before .before .before .before .args .cols) (c .before .before .before .before .before .before .before .before .before .before .before .args .q) (c .before .before .before .before .before .before .before .before .before .before .before .pre .1), c .before .before .before .before .before .before .before .before .before .before .before .pre .2)
+mul-turn-6 c = omega (arith, mul-comm (c .before .before .before .before .before .before .before .before .before .before .before .args .rows) (c .before .before .before .before .before .before .before .before .before .before .before .args .cols), row-end (c .before .before .before .before .before .before .before .before .before .before .before .args .cols) (c .before .before .before .before .before .before .before .before .before .before .before .args .rows) (c .before .before .before .before .before .before .before .before .before .before .before .args .p) (c .before .before .before .before .before .before .before .before .before .before .before .pre .0), row-end (c .before .before .before .before .before .before .before .before .before .before .before .args .cols) (c .before .before .before .before .before .before .before .before .before .before .before .args .rows) (c .before .before .before .before .before .before .before .before .before .before .before .args .q) (c .before .before .before .before .before .before .before .before .before .before .before .pre .1), row-end (c .before .before .before .before .before .before .before .before .before .before .before .args .cols) (c .before .before .before .before .before .before .before .before .before .before .before .args .cols) (c .before .before .before .before .before .before .before .before .before .before .before .args .p) (c .before .before .before .before .before .before .before .before .before .before .before .pre .0), row-end (c .before .before .before .before .before .before .before .before .before .before .before .args .cols) (c .before .before .before .before .before .before .before .before .before .before .before .args .cols) (c .before .before .before .before .before .before .before .before .before .before .before .args .q) (c .before .before .before .before .before .before .before .before .before .before .before .pre .1), c .before .before .before .before .before .before .before .before .before .before .before .pre .2)
 
 add-turn-2 : tie.Need-add-turn-2
-add-turn-2 c = omega (arith, column (c .before .before .before .before .before .before .before .before .before .before .before .args .rows) (c .before .before .before .before .before .before .before .before .before .before .before .args .cols) (c .before .before .before .before .before .before .before .before .before .before .before .args .p) (c .before .before .before .before .before .before .before .before .before .before .before .pre .0), column (c .before .before .before .before .before .before .before .before .before .before .before .args .rows) (c .before .before .before .before .before .before .before .before .before .before .before .args .cols) (c .before .before .before .before .before .before .before .before .before .before .before .args .q) (c .before .before .before .before .before .before .before .before .before .before .before .pre .1), column (c .before .before .before .before .before .before .before .before .before .before .before .args .cols) (c .before .before .before .before .before .before .before .before .before .before .before .args .cols) (c .before .before .before .before .before .before .before .before .before .before .before .args .p) (c .before .before .before .before .before .before .before .before .before .before .before .pre .0), column (c .before .before .before .before .before .before .before .before .before .before .before .args .cols) (c .before .before .before .before .before .before .before .before .before .before .before .args .cols) (c .before .before .before .before .before .before .before .before .before .before .before .args .q) (c .before .before .before .before .before .before .before .before .before .before .before .pre .1), c .before .before .before .before .before .before .before .before .before .before .before .pre .2)
+add-turn-2 c = omega (arith, mul-comm (c .before .before .before .before .before .before .before .before .before .before .before .args .rows) (c .before .before .before .before .before .before .before .before .before .before .before .args .cols), row-end (c .before .before .before .before .before .before .before .before .before .before .before .args .cols) (c .before .before .before .before .before .before .before .before .before .before .before .args .rows) (c .before .before .before .before .before .before .before .before .before .before .before .args .p) (c .before .before .before .before .before .before .before .before .before .before .before .pre .0), row-end (c .before .before .before .before .before .before .before .before .before .before .before .args .cols) (c .before .before .before .before .before .before .before .before .before .before .before .args .rows) (c .before .before .before .before .before .before .before .before .before .before .before .args .q) (c .before .before .before .before .before .before .before .before .before .before .before .pre .1), row-end (c .before .before .before .before .before .before .before .before .before .before .before .args .cols) (c .before .before .before .before .before .before .before .before .before .before .before .args .cols) (c .before .before .before .before .before .before .before .before .before .before .before .args .p) (c .before .before .before .before .before .before .before .before .before .before .before .pre .0), row-end (c .before .before .before .before .before .before .before .before .before .before .before .args .cols) (c .before .before .before .before .before .before .before .before .before .before .before .args .cols) (c .before .before .before .before .before .before .before .before .before .before .before .args .q) (c .before .before .before .before .before .before .before .before .before .before .before .pre .1), c .before .before .before .before .before .before .before .before .before .before .before .pre .2)
 
 turn-requires-2 : tie.Need-turn-requires-2
-turn-requires-2 c κs = omega (arith, column (c .before .before .before .before .before .before .before .before .before .before .before .args .rows) (c .before .before .before .before .before .before .before .before .before .before .before .args .cols) (c .before .before .before .before .before .before .before .before .before .before .before .args .p) (c .before .before .before .before .before .before .before .before .before .before .before .pre .0), column (c .before .before .before .before .before .before .before .before .before .before .before .args .rows) (c .before .before .before .before .before .before .before .before .before .before .before .args .cols) (c .before .before .before .before .before .before .before .before .before .before .before .args .q) (c .before .before .before .before .before .before .before .before .before .before .before .pre .1), column (c .before .before .before .before .before .before .before .before .before .before .before .args .cols) (c .before .before .before .before .before .before .before .before .before .before .before .args .cols) (c .before .before .before .before .before .before .before .before .before .before .before .args .p) (c .before .before .before .before .before .before .before .before .before .before .before .pre .0), column (c .before .before .before .before .before .before .before .before .before .before .before .args .cols) (c .before .before .before .before .before .before .before .before .before .before .before .args .cols) (c .before .before .before .before .before .before .before .before .before .before .before .args .q) (c .before .before .before .before .before .before .before .before .before .before .before .pre .1), c .before .before .before .before .before .before .before .before .before .before .before .pre .2)
+turn-requires-2 c κs = omega (arith, mul-comm (c .before .before .before .before .before .before .before .before .before .before .before .args .rows) (c .before .before .before .before .before .before .before .before .before .before .before .args .cols), row-end (c .before .before .before .before .before .before .before .before .before .before .before .args .cols) (c .before .before .before .before .before .before .before .before .before .before .before .args .rows) (c .before .before .before .before .before .before .before .before .before .before .before .args .p) (c .before .before .before .before .before .before .before .before .before .before .before .pre .0), row-end (c .before .before .before .before .before .before .before .before .before .before .before .args .cols) (c .before .before .before .before .before .before .before .before .before .before .before .args .rows) (c .before .before .before .before .before .before .before .before .before .before .before .args .q) (c .before .before .before .before .before .before .before .before .before .before .before .pre .1), row-end (c .before .before .before .before .before .before .before .before .before .before .before .args .cols) (c .before .before .before .before .before .before .before .before .before .before .before .args .cols) (c .before .before .before .before .before .before .before .before .before .before .before .args .p) (c .before .before .before .before .before .before .before .before .before .before .before .pre .0), row-end (c .before .before .before .before .before .before .before .before .before .before .before .args .cols) (c .before .before .before .before .before .before .before .before .before .before .before .args .cols) (c .before .before .before .before .before .before .before .before .before .before .before .args .q) (c .before .before .before .before .before .before .before .before .before .before .before .pre .1), c .before .before .before .before .before .before .before .before .before .before .before .pre .2)
 
 same-length-2 : tie.Need-same-length-2
 same-length-2 c = omega arith

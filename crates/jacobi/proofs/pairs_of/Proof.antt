@@ -1,10 +1,13 @@
+-- Generated from the answers file beside it by tools/prove/prove.py: edit that.
 -- `jacobi::pairs_of` meets its contract.
 use mathlib.Core.Path.{_≡_}
 use Prim.Native.Nat.{_+_, _-_, _≤_}
 use native.Mathlib.Omega.{arith}
 use borrow.Author.Needs.{needs}
-use Rattle.grid.specs.Loop.{upto, start, next, done}
-use Rattle.jacobi.specs.Jacobi.{Sized, pairDone, pairsOf}
+use Rattle.grid.specs.Loop.{upto}
+use Rattle.grid.specs.LoopLaws.{start, next, done}
+use Rattle.jacobi.specs.Jacobi.{pairDone, pairsOf}
+use Rattle.jacobi.specs.Kept.{Sized}
 use Rattle.jacobi.proofs.pairs_of.Statement.{statement}
 use Rattle.jacobi.proofs.pairs_of.Tie as tie
 

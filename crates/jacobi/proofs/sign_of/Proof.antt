@@ -1,3 +1,4 @@
+-- Generated from the answers file beside it by tools/prove/prove.py: edit that.
 -- `jacobi::sign_of` meets its contract.
 use Rattle.jacobi.proofs.sign_of.Statement.{statement}
 use Rattle.jacobi.proofs.sign_of.Tie as tie

@@ -1,10 +1,13 @@
+-- Generated from the answers file beside it by tools/prove/prove.py: edit that.
 -- `jacobi::sweeps` meets its contract.
-use mathlib.Core.Path.{_≡_, refl, ap}
+use mathlib.Core.Path.{_≡_, ap}
 use Prim.Native.Nat.{_+_, _≤_}
 use native.Mathlib.Omega.{arith}
 use borrow.Author.Needs.{needs}
-use Rattle.jacobi.specs.Jacobi.{Sized, swept, sweeps, ended}
-use Rattle.grid.specs.Loop.{rounds, rounds-stop, rounds-more, rounds-done}
+use Rattle.jacobi.specs.Kept.{Sized}
+use Rattle.jacobi.specs.Jacobi.{going, swept, sweeps, ended}
+use Rattle.grid.specs.Loop.{rounds}
+use Rattle.grid.specs.LoopLaws.{rounds-stop, rounds-more, rounds-done}
 use Rattle.jacobi.specs.Run.{swept-count}
 use Rattle.answers.specs.declared.Answer.{Answer}
 use Rattle.grid.specs.Real.{Vec}
@@ -13,13 +16,16 @@ use Rattle.jacobi.proofs.sweeps.Statement.{statement}
 use Rattle.jacobi.proofs.sweeps.Tie as tie
 
 abbrev Inv-loop : tie.InvT-loop
-Inv-loop rows cols limit w₀ run₀ left₀ w run left = (left ≤ limit) × (run .count + left ≤ limit) × Sized rows cols w × (rounds (swept rows cols) ended left (run, w) ≡ rounds (swept rows cols) ended limit (run₀, w₀))
+Inv-loop rows cols limit w₀ run₀ left₀ w run left = (left ≤ limit) × (run .count + left ≤ limit) × Sized rows cols w × (rounds (swept rows cols) ended left (run, w) ≡ rounds (swept rows cols) ended limit (going 0, w₀))
 
 abbrev μ-loop : tie.MeasureT-loop
 μ-loop rows cols limit w₀ run₀ left₀ w run left = left
 
+going-requires : tie.Need-going-requires Inv-loop μ-loop
+going-requires c κs = search needs
+
 loop-holds : tie.Need-loop-holds Inv-loop μ-loop
-loop-holds c = (omega arith, omega arith, search needs, refl)
+loop-holds c = (omega arith, omega (arith, ap (λ (x : Answer). x .count) (c .going .ensures)), search needs, rw (c .going .ensures))
 
 swept-requires : tie.Need-swept-requires Inv-loop μ-loop
 swept-requires c κs = search needs
@@ -38,7 +44,7 @@ loop-less : tie.Need-loop-less Inv-loop μ-loop
 loop-less c = omega arith
 
 loop-again : tie.Need-loop-again Inv-loop μ-loop
-loop-again c = (omega arith, omega (arith, ap (λ (x : Answer × Vec). x .0 .count) (c .before .before .before .before .swept .ensures), swept-count (c .before .before .before .before .before .before .before .before .before .args .rows) (c .before .before .before .before .before .before .before .before .before .args .cols) (c .before .before .before .before .before .before .before .loop .run, c .before .before .before .before .before .before .before .loop .w)), search needs, rounds-more _ _ _ (omega arith) (c .before .before .before .before .swept .ensures) (rw (eq-eqb _ _ (c .if1 .left))) (c .before .before .before .before .before .before .before .loop .inv .3))
+loop-again c = (omega arith, omega (arith, ap (λ (x : Answer × Vec). x .0 .count) (c .before .before .before .before .swept .ensures), swept-count (c .before .before .before .before .before .before .before .before .before .before .args .rows) (c .before .before .before .before .before .before .before .before .before .before .args .cols) (c .before .before .before .before .before .before .before .loop .run, c .before .before .before .before .before .before .before .loop .w)), search needs, rounds-more _ _ _ (omega arith) (c .before .before .before .before .swept .ensures) (rw (eq-eqb _ _ (c .if1 .left))) (c .before .before .before .before .before .before .before .loop .inv .3))
 
 same-length-2 : tie.Need-same-length-2 Inv-loop μ-loop
 same-length-2 c = omega arith
@@ -53,6 +59,7 @@ sweeps-spec =
     (tie.spec
     Inv-loop
     μ-loop
+    going-requires
     loop-holds
     swept-requires
     same-length

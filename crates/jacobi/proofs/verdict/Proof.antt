@@ -1,3 +1,4 @@
+-- Generated from the answers file beside it by tools/prove/prove.py: edit that.
 -- `jacobi::verdict` meets its contract.
 use borrow.Author.Needs.{needs}
 use Rattle.jacobi.specs.Jacobi.{verdict}
@@ -7,17 +8,35 @@ use Rattle.jacobi.proofs.verdict.Tie as tie
 is-bad-requires : tie.Need-is-bad-requires
 is-bad-requires c κs = search needs
 
+answered-requires : tie.Need-answered-requires
+answered-requires c κs = search needs
+
 returns : tie.Need-returns
 unfolding verdict
-returns c = rw (← c .before .is-bad .ensures, c .if1 .taken)
+returns c = rw (← c .before .before .is-bad .ensures, c .before .if1 .taken) (c .answered .ensures)
+
+going-requires : tie.Need-going-requires
+going-requires c κs = search needs
 
 returns-2 : tie.Need-returns-2
 unfolding verdict
-returns-2 c = rw (← c .before .before .is-bad .ensures, c .before .if1 .left, c .if2 .taken)
+returns-2 c = rw (← c .before .before .before .is-bad .ensures, c .before .before .if1 .left, c .before .if2 .taken) (c .going .ensures)
+
+done-requires : tie.Need-done-requires
+done-requires c κs = search needs
 
 returns-3 : tie.Need-returns-3
 unfolding verdict
-returns-3 c = rw (← c .before .before .is-bad .ensures, c .before .if1 .left, c .if2 .left)
+returns-3 c = rw (← c .before .before .before .is-bad .ensures, c .before .before .if1 .left, c .before .if2 .left) (c .done .ensures)
 
 pub verdict-spec : {M : Type 1} → statement M
-verdict-spec = tie.close (tie.spec is-bad-requires returns returns-2 returns-3)
+verdict-spec =
+    tie.close
+    (tie.spec
+    is-bad-requires
+    answered-requires
+    returns
+    going-requires
+    returns-2
+    done-requires
+    returns-3)

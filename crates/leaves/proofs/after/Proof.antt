@@ -1,7 +1,8 @@
+-- Generated from the answers file beside it by tools/prove/prove.py: edit that.
 -- `leaves::after` meets its contract.
 use borrow.Author.Needs.{needs}
 use borrow.Author.Tests.{eq-eqb, ne-eqb}
-use Rattle.leaves.specs.Scan.{after}
+use Rattle.leaves.specs.ScanLaws.{after}
 use Rattle.leaves.proofs.after.Statement.{statement}
 use Rattle.leaves.proofs.after.Tie as tie
 

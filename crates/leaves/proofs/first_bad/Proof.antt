@@ -1,10 +1,12 @@
+-- Generated from the answers file beside it by tools/prove/prove.py: edit that.
 -- `leaves::first_bad` meets its contract.
 use mathlib.Core.Path.{_≡_, refl}
 use Prim.Native.Nat.{_-_, _≤_}
 use native.Mathlib.Omega.{arith}
 use borrow.Author.Needs.{needs}
 use lib.ListN.{length}
-use Rattle.grid.specs.Loop.{first, first-next}
+use Rattle.grid.specs.Loop.{first}
+use Rattle.grid.specs.LoopLaws.{first-next}
 use Rattle.leaves.specs.Scan.{notFinite, firstBad}
 use Rattle.leaves.proofs.Search.{found-here, found-none}
 use Rattle.leaves.proofs.first_bad.Statement.{statement}

@@ -1,3 +1,4 @@
+-- Generated from the answers file beside it by tools/prove/prove.py: edit that.
 -- `leaves::first_bad_cell` meets its contract.
 use native.Mathlib.Omega.{arith}
 use lib.ListN.{length}

@@ -1,11 +1,14 @@
+-- Generated from the answers file beside it by tools/prove/prove.py: edit that.
 -- `leaves::first_bad_lower` meets its contract.
 use mathlib.Core.Path.{_≡_, _∙_, refl, ap}
 use Prim.Native.Nat.{_-_, _≤_}
 use native.Mathlib.Omega.{arith}
 use borrow.Author.Needs.{needs}
 use lib.ListN.{length}
-use Rattle.grid.specs.Loop.{first, first-next}
-use Rattle.leaves.specs.Scan.{lowerBad, placeOf, firstBadLower, after}
+use Rattle.grid.specs.Loop.{first}
+use Rattle.grid.specs.LoopLaws.{first-next}
+use Rattle.leaves.specs.Scan.{lowerBad, placeOf, firstBadLower}
+use Rattle.leaves.specs.ScanLaws.{after}
 use Rattle.leaves.proofs.Search.{found-here, found-none, after-place, start-place, place-low}
 use Rattle.leaves.proofs.first_bad_lower.Statement.{statement}
 use Rattle.leaves.proofs.first_bad_lower.Tie as tie

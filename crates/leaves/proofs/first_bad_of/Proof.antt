@@ -1,10 +1,13 @@
+-- Generated from the answers file beside it by tools/prove/prove.py: edit that.
 -- `leaves::first_bad_of` meets its contract.
 use mathlib.Core.Path.{_≡_, _∙_, refl, ap}
 use Prim.Native.Nat.{_-_, _*_, _≤_}
 use native.Mathlib.Omega.{arith}
 use borrow.Author.Needs.{needs}
-use Rattle.grid.specs.Loop.{first, first-next}
-use Rattle.leaves.specs.Scan.{cellBad, placeOf, firstBadOf, after}
+use Rattle.grid.specs.Loop.{first}
+use Rattle.grid.specs.LoopLaws.{first-next}
+use Rattle.leaves.specs.Scan.{cellBad, placeOf, firstBadOf}
+use Rattle.leaves.specs.ScanLaws.{after}
 use Rattle.leaves.proofs.Search.{found-here, found-none, after-place, start-place, place-low, place-within}
 use Rattle.leaves.proofs.first_bad_of.Statement.{statement}
 use Rattle.leaves.proofs.first_bad_of.Tie as tie

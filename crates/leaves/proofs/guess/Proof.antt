@@ -1,3 +1,4 @@
+-- Generated from the answers file beside it by tools/prove/prove.py: edit that.
 -- `leaves::guess` meets its contract.
 use Prim.Native.Nat.{_-_, _/_}
 use native.Mathlib.Omega.{arith}

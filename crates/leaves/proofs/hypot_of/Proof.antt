@@ -1,3 +1,4 @@
+-- Generated from the answers file beside it by tools/prove/prove.py: edit that.
 -- `leaves::hypot_of` meets its contract.
 use borrow.Author.Needs.{needs}
 use Rattle.leaves.specs.Leaf.{hypotOf}

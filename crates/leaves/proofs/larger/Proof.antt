@@ -1,3 +1,4 @@
+-- Generated from the answers file beside it by tools/prove/prove.py: edit that.
 -- `leaves::larger` meets its contract.
 use Rattle.leaves.specs.Leaf.{larger}
 use Rattle.leaves.proofs.larger.Statement.{statement}

@@ -1,3 +1,4 @@
+-- Generated from the answers file beside it by tools/prove/prove.py: edit that.
 -- `leaves::magnitude` meets its contract.
 use mathlib.Core.Path.{sym, subst}
 use Rattle.leaves.proofs.Sign.{negative, nought, positive}

@@ -1,3 +1,4 @@
+-- Generated from the answers file beside it by tools/prove/prove.py: edit that.
 -- `pass::mark1` meets its contract.
 use borrow.Author.Needs.{needs}
 use Rattle.pass.specs.Pass.{mark1}

@@ -1,3 +1,4 @@
+-- Generated from the answers file beside it by tools/prove/prove.py: edit that.
 -- `pass::signed` meets its contract.
 use Rattle.pass.specs.Pass.{signed}
 use Rattle.pass.proofs.signed.Statement.{statement}

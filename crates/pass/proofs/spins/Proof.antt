@@ -1,11 +1,13 @@
+-- Generated from the answers file beside it by tools/prove/prove.py: edit that.
 -- `pass::spins` meets its contract.
 use mathlib.Core.Path.{_≡_, refl}
 use Prim.Native.Nat.{_≤_}
 use native.Mathlib.Omega.{arith}
 use borrow.Author.Needs.{needs}
-use Rattle.grid.specs.Cell.{Sized}
+use Rattle.grid.specs.CellLaws.{Sized}
 use Rattle.pass.specs.Pass.{spin, spins}
-use Rattle.grid.specs.Loop.{fall, fall-more, fall-done}
+use Rattle.grid.specs.Loop.{fall}
+use Rattle.grid.specs.LoopLaws.{fall-more, fall-done}
 use Rattle.pass.proofs.spins.Statement.{statement}
 use Rattle.pass.proofs.spins.Tie as tie
 

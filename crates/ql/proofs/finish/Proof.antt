@@ -1,3 +1,4 @@
+-- Generated from the answers file beside it by tools/prove/prove.py: edit that.
 -- `ql::finish` meets its contract.
 use native.Mathlib.Omega.{arith}
 use borrow.Author.Needs.{needs}
@@ -6,16 +7,25 @@ use Rattle.ql.specs.Ql.{finished}
 use Rattle.ql.proofs.finish.Statement.{statement}
 use Rattle.ql.proofs.finish.Tie as tie
 
+answered-requires : tie.Need-answered-requires
+answered-requires c κs = search needs
+
 returns : tie.Need-returns
 unfolding finished
-returns c = λ e. rw (eq-eqb _ _ (c .if1 .taken))
+returns c = λ e. rw (eq-eqb _ _ (c .before .if1 .taken), c .answered .ensures)
+
+answered-requires-2 : tie.Need-answered-requires-2
+answered-requires-2 c κs = search needs
 
 returns-2 : tie.Need-returns-2
 unfolding finished
-returns-2 c = λ e. rw (ne-eqb _ _ (c .before .before .if1 .left), eq-eqb _ _ (c .if2 .taken))
+returns-2 c = λ e. rw (ne-eqb _ _ (c .before .before .before .if1 .left), eq-eqb _ _ (c .before .if2 .taken), c .answered2 .ensures)
 
 mark2-requires : tie.Need-mark2-requires
 mark2-requires c κs = search needs
+
+answered-requires-3 : tie.Need-answered-requires-3
+answered-requires-3 c κs = search needs
 
 same-length : tie.Need-same-length
 same-length c = omega arith
@@ -25,10 +35,13 @@ same-length-2 c = omega arith
 
 returns-3 : tie.Need-returns-3
 unfolding finished
-returns-3 c = λ e. rw (ne-eqb _ _ (c .before .before .before .before .before .before .if1 .left), ne-eqb _ _ (c .before .before .before .before .if2 .left), ← c .before .mark2 .ensures, c .if3 .taken)
+returns-3 c = λ e. rw (ne-eqb _ _ (c .before .before .before .before .before .before .before .if1 .left), ne-eqb _ _ (c .before .before .before .before .before .if2 .left), ← c .before .before .mark2 .ensures, c .before .if3 .taken, c .answered3 .ensures)
 
 sort-requires : tie.Need-sort-requires
 sort-requires c κs = search needs
+
+done-requires : tie.Need-done-requires
+done-requires c κs = search needs
 
 same-length-3 : tie.Need-same-length-3
 same-length-3 c = omega arith
@@ -38,19 +51,23 @@ same-length-4 c = omega arith
 
 returns-4 : tie.Need-returns-4
 unfolding finished
-returns-4 c = λ e. rw (ne-eqb _ _ (c .before .before .before .before .before .before .before .before .before .before .before .before .before .if1 .left), ne-eqb _ _ (c .before .before .before .before .before .before .before .before .before .before .before .if2 .left), ← c .before .before .before .before .before .before .before .before .mark2 .ensures, c .before .before .before .before .before .before .before .if3 .left, ← c .before .before .before .before .sort .ensures)
+returns-4 c = λ e. rw (ne-eqb _ _ (c .before .before .before .before .before .before .before .before .before .before .before .before .before .before .if1 .left), ne-eqb _ _ (c .before .before .before .before .before .before .before .before .before .before .before .before .if2 .left), ← c .before .before .before .before .before .before .before .before .before .mark2 .ensures, c .before .before .before .before .before .before .before .before .if3 .left, ← c .before .before .before .before .before .sort .ensures, c .done .ensures)
 
 pub finish-spec : {M : Type 1} → statement M
 finish-spec =
     tie.close
     (tie.spec
+    answered-requires
     returns
+    answered-requires-2
     returns-2
     mark2-requires
+    answered-requires-3
     same-length
     same-length-2
     returns-3
     sort-requires
+    done-requires
     same-length-3
     same-length-4
     returns-4)

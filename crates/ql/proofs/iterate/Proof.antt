@@ -1,16 +1,18 @@
+-- Generated from the answers file beside it by tools/prove/prove.py: edit that.
 -- `ql::iterate` meets its contract.
 use mathlib.Core.Path.{_≡_, _∙_, refl, ap}
 use Prim.Native.Nat.{ℕ, _+_, _-_, _<_, _≤_}
 use native.Mathlib.Omega.{arith}
-use Rattle.grid.specs.Loop.{more}
+use Rattle.grid.specs.LoopLaws.{more}
 use borrow.Author.Tests.{eq-eqb, ne-eqb}
 use mathlib.Core.Bool.{not, false}
 use denote.Ref.{now}
-use Rattle.grid.specs.Cell.{Sized}
+use Rattle.grid.specs.CellLaws.{Sized}
 use Rattle.pass.specs.Pass.{pass}
 use Rattle.ql.specs.Ql.{State, ended, iterated}
 use Rattle.ql.specs.Bounds.{one-pass}
-use Rattle.grid.specs.Loop.{rounds, rounds-stop, rounds-more, rounds-done}
+use Rattle.grid.specs.Loop.{rounds}
+use Rattle.grid.specs.LoopLaws.{rounds-stop, rounds-more, rounds-done}
 use Rattle.ql.proofs.iterate.Statement.{statement}
 use Rattle.ql.proofs.iterate.Tie as tie
 

@@ -1,3 +1,4 @@
+-- Generated from the answers file beside it by tools/prove/prove.py: edit that.
 -- `ql::mark2` meets its contract.
 use borrow.Author.Needs.{needs}
 use Rattle.ql.specs.Ql.{mark2}

@@ -1,10 +1,12 @@
+-- Generated from the answers file beside it by tools/prove/prove.py: edit that.
 -- `ql::run` meets its contract.
 use mathlib.Core.Path.{_≡_}
 use Prim.Native.Nat.{ℕ, _+_, _-_, _*_, _≤_}
 use native.Mathlib.Omega.{arith}
 use borrow.Author.Needs.{needs}
-use Rattle.grid.specs.Loop.{upto, start, next, done}
-use Rattle.grid.specs.Cell.{Sized}
+use Rattle.grid.specs.Loop.{upto}
+use Rattle.grid.specs.LoopLaws.{start, next, done}
+use Rattle.grid.specs.CellLaws.{Sized}
 use Rattle.ql.specs.Ql.{State, turn, run}
 use Rattle.ql.specs.Bounds.{turn-count}
 use Rattle.ql.proofs.run.Statement.{statement}

@@ -1,33 +1,34 @@
+-- Generated from the answers file beside it by tools/prove/prove.py: edit that.
 -- `ql::sort_at` meets its contract.
 use native.Mathlib.Omega.{arith}
 use borrow.Author.Needs.{needs}
 use borrow.Author.Tests.{eq-eqb, ne-eqb}
 use Rattle.ql.specs.Ql.{sortStep}
-use Rattle.ql.specs.Bounds.{least-below}
+use Rattle.ql.specs.Bounds.{leastFrom-below}
 use Rattle.ql.proofs.sort_at.Statement.{statement}
 use Rattle.ql.proofs.sort_at.Tie as tie
 
-least-requires : tie.Need-least-requires
-least-requires c κs = search needs
+least-from-requires : tie.Need-least-from-requires
+least-from-requires c κs = search needs
 
 same-length : tie.Need-same-length
 same-length c = omega arith
 
 returns : tie.Need-returns
 unfolding sortStep
-returns c = rw (← c .before .least .ensures, eq-eqb _ _ (c .if1 .taken))
+returns c = rw (← c .before .least-from .ensures, eq-eqb _ _ (c .if1 .taken))
 
 at1-requires : tie.Need-at1-requires
-at1-requires c κs = omega (arith, c .before .before .before .before .before .before .before .pre, least-below _ _ _ _ (c .before .before .before .before .before .before .before .pre .0) (c .before .before .before .least .ensures))
+at1-requires c κs = omega (arith, c .before .before .before .before .before .before .before .pre, leastFrom-below _ _ _ _ (c .before .before .before .before .before .before .before .pre .0) (c .before .before .before .least-from .ensures))
 
 put1-requires : tie.Need-put1-requires
-put1-requires c κs = omega (arith, c .before .before .before .before .before .before .before .before .pre, least-below _ _ _ _ (c .before .before .before .before .before .before .before .before .pre .0) (c .before .before .before .before .least .ensures))
+put1-requires c κs = omega (arith, c .before .before .before .before .before .before .before .before .pre, leastFrom-below _ _ _ _ (c .before .before .before .before .before .before .before .before .pre .0) (c .before .before .before .before .least-from .ensures))
 
 put1-requires-2 : tie.Need-put1-requires-2
-put1-requires-2 c κs = omega (arith, c .before .before .before .before .before .before .before .before .before .before .before .before .pre, least-below _ _ _ _ (c .before .before .before .before .before .before .before .before .before .before .before .before .pre .0) (c .before .before .before .before .before .before .before .before .least .ensures))
+put1-requires-2 c κs = omega (arith, c .before .before .before .before .before .before .before .before .before .before .before .before .pre, leastFrom-below _ _ _ _ (c .before .before .before .before .before .before .before .before .before .before .before .before .pre .0) (c .before .before .before .before .before .before .before .before .least-from .ensures))
 
 swap-requires : tie.Need-swap-requires
-swap-requires c κs = omega (arith, c .before .before .before .before .before .before .before .before .before .before .before .before .before .before .before .before .pre, least-below _ _ _ _ (c .before .before .before .before .before .before .before .before .before .before .before .before .before .before .before .before .pre .0) (c .before .before .before .before .before .before .before .before .before .before .before .before .least .ensures))
+swap-requires c κs = omega (arith, c .before .before .before .before .before .before .before .before .before .before .before .before .before .before .before .before .pre, leastFrom-below _ _ _ _ (c .before .before .before .before .before .before .before .before .before .before .before .before .before .before .before .before .pre .0) (c .before .before .before .before .before .before .before .before .before .before .before .before .least-from .ensures))
 
 same-length-2 : tie.Need-same-length-2
 same-length-2 c = omega arith
@@ -37,13 +38,13 @@ same-length-3 c = omega arith
 
 returns-2 : tie.Need-returns-2
 unfolding sortStep
-returns-2 c = rw (← c .before .before .before .before .before .before .before .before .before .before .before .before .before .before .before .least .ensures, ← c .before .before .before .before .before .before .before .before .before .before .before .at1 .ensures, ← c .before .before .before .before .before .before .before .before .before .before .put1 .ensures, ← c .before .before .before .before .before .before .put12 .ensures, ← c .before .before .swap .ensures, ne-eqb _ _ (c .before .before .before .before .before .before .before .before .before .before .before .before .before .before .if1 .left))
+returns-2 c = rw (← c .before .before .before .before .before .before .before .before .before .before .before .before .before .before .before .least-from .ensures, ← c .before .before .before .before .before .before .before .before .before .before .before .at1 .ensures, ← c .before .before .before .before .before .before .before .before .before .before .put1 .ensures, ← c .before .before .before .before .before .before .put12 .ensures, ← c .before .before .swap .ensures, ne-eqb _ _ (c .before .before .before .before .before .before .before .before .before .before .before .before .before .before .if1 .left))
 
 pub sort-at-spec : {M : Type 1} → statement M
 sort-at-spec =
     tie.close
     (tie.spec
-    least-requires
+    least-from-requires
     same-length
     returns
     at1-requires

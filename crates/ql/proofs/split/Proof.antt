@@ -1,3 +1,4 @@
+-- Generated from the answers file beside it by tools/prove/prove.py: edit that.
 -- `ql::split` meets its contract.
 use mathlib.Core.Path.{_≡_, refl}
 use Prim.Native.Nat.{_-_, _≤_}
@@ -5,7 +6,8 @@ use native.Mathlib.Omega.{arith}
 use borrow.Author.Needs.{needs}
 use Rattle.pass.specs.Pass.{tiny}
 use Rattle.ql.specs.Ql.{split}
-use Rattle.grid.specs.Loop.{first, first-here, first-next, first-none}
+use Rattle.grid.specs.Loop.{first}
+use Rattle.grid.specs.LoopLaws.{first-here, first-next, first-none}
 use Rattle.ql.proofs.split.Statement.{statement}
 use Rattle.ql.proofs.split.Tie as tie
 

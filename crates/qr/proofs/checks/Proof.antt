@@ -1,26 +1,27 @@
+-- Generated from the answers file beside it by tools/prove/prove.py: edit that.
 -- `qr::checks` meets its contract.
 use mathlib.Core.Path.{_∙_}
 use native.Mathlib.Omega.{arith}
 use borrow.Author.Needs.{needs}
 use borrow.Author.Tests.{lt-ltb, le-ltb}
-use Rattle.answers.specs.Answers.{product-le}
+use Rattle.answers.specs.AnswersLaws.{product-le}
 use Rattle.qr.specs.Qr.{checks}
 use Rattle.qr.proofs.checks.Statement.{statement}
 use Rattle.qr.proofs.checks.Tie as tie
 
-told-requires : tie.Need-told-requires
-told-requires c κs = search needs
+refused-requires : tie.Need-refused-requires
+refused-requires c κs = search needs
 
 returns : tie.Need-returns
 unfolding checks
-returns c = c .told .ensures ∙ rw (lt-ltb 256 _ (c .before .if1 .taken))
+returns c = c .refused .ensures ∙ rw (lt-ltb 256 _ (c .before .if1 .taken))
 
-told-requires-2 : tie.Need-told-requires-2
-told-requires-2 c κs = search needs
+refused-requires-2 : tie.Need-refused-requires-2
+refused-requires-2 c κs = search needs
 
 returns-2 : tie.Need-returns-2
 unfolding checks
-returns-2 c = c .told2 .ensures ∙ rw (le-ltb 256 _ (c .before .before .if1 .left), lt-ltb 256 _ (c .before .if2 .taken))
+returns-2 c = c .refused2 .ensures ∙ rw (le-ltb 256 _ (c .before .before .if1 .left), lt-ltb 256 _ (c .before .if2 .taken))
 
 mul-lengths : tie.Need-mul-lengths
 mul-lengths c = omega (arith, product-le (c .before .before .args .m) (c .before .before .args .k) (c .before .if1 .left) (c .if2 .left))
@@ -39,9 +40,9 @@ pub checks-spec : {M : Type 1} → statement M
 checks-spec =
     tie.close
     (tie.spec
-    told-requires
+    refused-requires
     returns
-    told-requires-2
+    refused-requires-2
     returns-2
     mul-lengths
     mul-lengths-2

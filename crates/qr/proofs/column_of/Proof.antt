@@ -1,3 +1,4 @@
+-- Generated from the answers file beside it by tools/prove/prove.py: edit that.
 -- `qr::column_of` meets its contract.
 use mathlib.Core.Path.{_≡_, refl}
 use Prim.Native.Nat.{_-_, _≤_}
@@ -5,7 +6,8 @@ use native.Mathlib.Omega.{arith}
 use borrow.Author.Needs.{needs}
 use lib.ListN.{length}
 use Rattle.grid.specs.Cell.{entry}
-use Rattle.grid.specs.Table.{table, table-none, table-more, table-done}
+use Rattle.grid.specs.Table.{table}
+use Rattle.grid.specs.TableLaws.{table-none, table-more, table-done}
 use lib.ListN.{take}
 use Rattle.qr.proofs.column_of.Statement.{statement}
 use Rattle.qr.proofs.column_of.Tie as tie

@@ -1,10 +1,12 @@
+-- Generated from the answers file beside it by tools/prove/prove.py: edit that.
 -- `qr::columns` meets its contract. After a refusal the turns that are left change nothing.
 use mathlib.Core.Path.{_≡_, refl}
 use Prim.Native.Nat.{_+_, _-_, _≤_}
 use native.Mathlib.Omega.{arith}
 use borrow.Author.Needs.{needs}
 use lib.ListN.{length}
-use Rattle.grid.specs.Loop.{upto, start, next, done}
+use Rattle.grid.specs.Loop.{upto}
+use Rattle.grid.specs.LoopLaws.{start, next, done}
 use Rattle.answers.specs.Answers.{answered}
 use borrow.Author.Tests.{eq-eqb, ne-eqb}
 use denote.Ref.{now}
@@ -19,11 +21,11 @@ Inv-loop m k b₀ c₀ q₀ r₀ j₀ b c q r j = (j ≤ k) × (length b ≡ len
 abbrev μ-loop : tie.MeasureT-loop
 μ-loop m k b₀ c₀ q₀ r₀ j₀ b c q r j = k - j
 
-told-requires : tie.Need-told-requires Inv-loop μ-loop
-told-requires c κs = search needs
+done-requires : tie.Need-done-requires Inv-loop μ-loop
+done-requires c κs = search needs
 
 loop-holds : tie.Need-loop-holds Inv-loop μ-loop
-loop-holds c = (omega arith, refl, refl, refl, rw (c .told .ensures), rw (c .told .ensures) (start _ _ _))
+loop-holds c = (omega arith, refl, refl, refl, rw (c .done .ensures), rw (c .done .ensures) (start _ _ _))
 
 column-requires : tie.Need-column-requires Inv-loop μ-loop
 column-requires c κs = search needs
@@ -69,7 +71,7 @@ columns-spec =
     (tie.spec
     Inv-loop
     μ-loop
-    told-requires
+    done-requires
     loop-holds
     column-requires
     same-length

@@ -1,3 +1,4 @@
+-- Generated from the answers file beside it by tools/prove/prove.py: edit that.
 -- `qr::finish` meets its contract.
 use native.Mathlib.Omega.{arith}
 use borrow.Author.Needs.{needs}
@@ -14,8 +15,8 @@ normalise-requires c κs = search needs
 put-column-requires : tie.Need-put-column-requires
 put-column-requires c κs = search needs
 
-told-requires : tie.Need-told-requires
-told-requires c κs = search needs
+done-requires : tie.Need-done-requires
+done-requires c κs = search needs
 
 same-length : tie.Need-same-length
 same-length c = omega arith
@@ -25,7 +26,7 @@ same-length-2 c = omega arith
 
 returns : tie.Need-returns
 unfolding finished
-returns c = rw (← c .before .before .before .before .before .before .before .before .before .before .before .is-finite .ensures, c .before .before .before .before .before .before .before .before .before .before .if1 .taken, ← c .before .before .before .before .before .before .before .before .normalise .ensures, ← c .before .before .before .put-column .ensures, c .told .ensures)
+returns c = rw (← c .before .before .before .before .before .before .before .before .before .before .before .is-finite .ensures, c .before .before .before .before .before .before .before .before .before .before .if1 .taken, ← c .before .before .before .before .before .before .before .before .normalise .ensures, ← c .before .before .before .put-column .ensures, c .done .ensures)
 
 refuse-requires : tie.Need-refuse-requires
 refuse-requires c κs = search needs
@@ -44,7 +45,7 @@ finish-spec =
     is-finite-requires
     normalise-requires
     put-column-requires
-    told-requires
+    done-requires
     same-length
     same-length-2
     returns

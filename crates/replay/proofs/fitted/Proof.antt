@@ -1,3 +1,4 @@
+-- Generated from the answers file beside it by tools/prove/prove.py: edit that.
 -- `replay::fitted` meets its contract. Each part ends within its array, as the tests say.
 use mathlib.Core.Path.{sym}
 use borrow.Author.Needs.{needs}

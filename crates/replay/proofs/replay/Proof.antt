@@ -1,3 +1,4 @@
+-- Generated from the answers file beside it by tools/prove/prove.py: edit that.
 -- `replay::replay` meets its contract. The turns that are left are the measure; the arrays keep their lengths.
 use mathlib.Core.Path.{_≡_, refl}
 use native.Mathlib.Omega.{arith}

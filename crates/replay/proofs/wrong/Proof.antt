@@ -1,3 +1,4 @@
+-- Generated from the answers file beside it by tools/prove/prove.py: edit that.
 -- `replay::wrong` meets its contract. The words that are left are the measure.
 use Prim.Native.Nat.{_-_, _≤_}
 use native.Mathlib.Omega.{arith}

@@ -1,15 +1,17 @@
+-- Generated from the answers file beside it by tools/prove/prove.py: edit that.
 -- `solve::add_row` meets its contract.
 use mathlib.Core.Path.{_≡_, _∙_, refl}
 use Prim.Native.Nat.{_-_, _≤_}
 use native.Mathlib.Omega.{arith}
 use borrow.Author.Needs.{needs}
 use lib.ListN.{length}
-use Rattle.grid.specs.Loop.{upto, start, next, done}
+use Rattle.grid.specs.Loop.{upto}
+use Rattle.grid.specs.LoopLaws.{start, next, done}
 use Rattle.grid.specs.Real.{_⊕_, _⊗_}
 use Rattle.grid.specs.Cell.{entry}
-use Rattle.grid.specs.Table.{each}
+use Rattle.grid.specs.TableLaws.{each}
 use denote.Ref.{now}
-use Rattle.solve.specs.Solve.{addStep}
+use Rattle.solve.specs.SolveLaws.{addStep}
 use Rattle.solve.proofs.add_row.Statement.{statement}
 use Rattle.solve.proofs.add_row.Tie as tie
 

@@ -1,3 +1,4 @@
+-- Generated from the answers file beside it by tools/prove/prove.py: edit that.
 -- `solve::coefficient` meets its contract.
 use Rattle.solve.specs.Solve.{coefficient}
 use Rattle.solve.proofs.coefficient.Statement.{statement}

@@ -1,14 +1,17 @@
+-- Generated from the answers file beside it by tools/prove/prove.py: edit that.
 -- `solve::coefficients` meets its contract.
 use mathlib.Core.Path.{_≡_, _∙_, refl}
 use Prim.Native.Nat.{_-_, _≤_}
 use native.Mathlib.Omega.{arith}
 use borrow.Author.Needs.{needs}
 use lib.ListN.{length}
-use Rattle.grid.specs.Loop.{upto, start, next, done}
+use Rattle.grid.specs.Loop.{upto}
+use Rattle.grid.specs.LoopLaws.{start, next, done}
 use Rattle.grid.specs.Real.{at}
-use Rattle.grid.specs.Table.{each}
+use Rattle.grid.specs.TableLaws.{each}
 use denote.Ref.{now}
-use Rattle.solve.specs.Solve.{coefficient, coefficientStep}
+use Rattle.solve.specs.Solve.{coefficient}
+use Rattle.solve.specs.SolveLaws.{coefficientStep}
 use Rattle.solve.proofs.coefficients.Statement.{statement}
 use Rattle.solve.proofs.coefficients.Tie as tie
 

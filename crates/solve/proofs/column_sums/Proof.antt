@@ -1,10 +1,11 @@
+-- Generated from the answers file beside it by tools/prove/prove.py: edit that.
 -- `solve::column_sums` meets its contract.
 use mathlib.Core.Path.{_≡_, _∙_, refl, ap}
 use Prim.Native.Nat.{_-_, _≤_}
 use native.Mathlib.Omega.{arith}
 use borrow.Author.Needs.{needs}
 use lib.ListN.{length}
-use Rattle.grid.specs.Table.{turns, turns-none, turns-more}
+use Rattle.grid.specs.TableLaws.{turns, turns-none, turns-more}
 use Rattle.solve.specs.Solve.{columnStep, columnSum}
 use native.Mathlib.Nat.{le-antisymm}
 use denote.Ref.{now}

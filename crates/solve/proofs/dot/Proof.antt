@@ -1,10 +1,12 @@
+-- Generated from the answers file beside it by tools/prove/prove.py: edit that.
 -- `solve::dot` meets its contract.
 use mathlib.Core.Path.{_≡_}
 use Prim.Native.Nat.{_-_, _≤_}
 use native.Mathlib.Omega.{arith}
 use borrow.Author.Needs.{needs}
-use Rattle.grid.specs.Loop.{upto, start, next, done}
-use Rattle.solve.specs.Solve.{dotStep, dot}
+use Rattle.grid.specs.Loop.{upto}
+use Rattle.grid.specs.LoopLaws.{start, next, done}
+use Rattle.solve.specs.SolveLaws.{dotStep, dot}
 use Rattle.grid.specs.Real.{zero64}
 use Rattle.solve.proofs.dot.Statement.{statement}
 use Rattle.solve.proofs.dot.Tie as tie

@@ -1,3 +1,4 @@
+-- Generated from the answers file beside it by tools/prove/prove.py: edit that.
 -- `solve::inverse` meets its contract.
 use Rattle.solve.specs.Solve.{inverse}
 use Rattle.solve.proofs.inverse.Statement.{statement}

@@ -1,6 +1,6 @@
+-- Generated from the answers file beside it by tools/prove/prove.py: edit that.
 -- `solve::inverse_scanned` meets its contract.
 use borrow.Author.Needs.{needs}
-use native.Mathlib.Nat.{zero-add}
 use Rattle.solve.proofs.inverse_scanned.Statement.{statement}
 use Rattle.solve.proofs.inverse_scanned.Tie as tie
 
@@ -29,7 +29,7 @@ same-length-2 : tie.Need-same-length-2
 same-length-2 c = search needs
 
 returns-2 : tie.Need-returns-2
-returns-2 c = rw (← c .before .before .before .before .before .before .before .first-bad .ensures, c .before .before .before .before .before .i .given .1, zero-add) (c .before .before .refuse .ensures)
+returns-2 c = rw (← c .before .before .before .before .before .before .before .first-bad .ensures, c .before .before .before .before .before .i .given .1) (c .before .before .refuse .ensures)
 
 pub inverse-scanned-spec : {M : Type 1} → statement M
 inverse-scanned-spec =

@@ -1,3 +1,4 @@
+-- Generated from the answers file beside it by tools/prove/prove.py: edit that.
 -- `solve::marked` meets its contract.
 use native.Mathlib.Omega.{arith}
 use borrow.Author.Needs.{needs}
@@ -21,15 +22,15 @@ returns : tie.Need-returns
 unfolding marked
 returns c = rw (← c .before .before .before .before .before .before .first-bad .ensures, ← c .before .before .before .before .before .is-bad .ensures, c .before .before .before .before .if1 .taken) (c .before .before .refuse .ensures)
 
-refusal-requires : tie.Need-refusal-requires
-refusal-requires c κs = search needs
+done-requires : tie.Need-done-requires
+done-requires c κs = search needs
 
 same-length-2 : tie.Need-same-length-2
 same-length-2 c = omega arith
 
 returns-2 : tie.Need-returns-2
 unfolding marked
-returns-2 c = rw (← c .before .before .before .first-bad .ensures, ← c .before .before .is-bad .ensures, c .before .if1 .left, c .refusal .ensures)
+returns-2 c = rw (← c .before .before .before .first-bad .ensures, ← c .before .before .is-bad .ensures, c .before .if1 .left, c .done .ensures)
 
 pub marked-spec : {M : Type 1} → statement M
 marked-spec =
@@ -40,6 +41,6 @@ marked-spec =
     refuse-requires
     same-length
     returns
-    refusal-requires
+    done-requires
     same-length-2
     returns-2)

@@ -1,10 +1,12 @@
+-- Generated from the answers file beside it by tools/prove/prove.py: edit that.
 -- `solve::pinv_rows` meets its contract.
 use mathlib.Core.Path.{_≡_, _∙_, refl}
 use Prim.Native.Nat.{_+_, _-_, _*_, _≤_}
 use native.Mathlib.Omega.{arith}
 use lib.ListN.{length}
 use Rattle.solve.specs.Solve.{pinvRow}
-use Rattle.grid.specs.Table.{rows, rows-none, row-end, rows-more, rows-done, length-part}
+use Rattle.grid.specs.Table.{rows}
+use Rattle.grid.specs.TableLaws.{rows-none, row-end, rows-more, rows-done, length-part}
 use lib.ListN.{take, drop}
 use denote.Ref.{now}
 use Rattle.solve.proofs.pinv_rows.Statement.{statement}

@@ -1,11 +1,13 @@
+-- Generated from the answers file beside it by tools/prove/prove.py: edit that.
 -- `solve::products` meets its contract.
 use mathlib.Core.Path.{_≡_, refl}
 use Prim.Native.Nat.{_-_, _≤_}
 use native.Mathlib.Omega.{arith}
 use borrow.Author.Needs.{needs}
 use lib.ListN.{length}
-use Rattle.solve.specs.Solve.{product}
-use Rattle.grid.specs.Table.{table, table-none, table-more, table-done}
+use Rattle.solve.specs.SolveLaws.{product}
+use Rattle.grid.specs.Table.{table}
+use Rattle.grid.specs.TableLaws.{table-none, table-more, table-done}
 use lib.ListN.{take}
 use Rattle.solve.proofs.products.Statement.{statement}
 use Rattle.solve.proofs.products.Tie as tie

@@ -1,3 +1,4 @@
+-- Generated from the answers file beside it by tools/prove/prove.py: edit that.
 -- `solve::solution` meets its contract.
 use mathlib.Core.Path.{sym}
 use Prim.Native.Nat.{_+_, _*_}
@@ -5,7 +6,7 @@ use native.Mathlib.Omega.{arith}
 use lib.ListN.{length}
 use Rattle.solve.proofs.Sums.{solution-by}
 use Rattle.solve.proofs.Checks.{split}
-use Rattle.grid.specs.Table.{length-part}
+use Rattle.grid.specs.TableLaws.{length-part}
 use lib.Seq.{length-take-le}
 use denote.Ref.{now}
 use Rattle.solve.proofs.solution.Statement.{statement}

@@ -1,9 +1,10 @@
+-- Generated from the answers file beside it by tools/prove/prove.py: edit that.
 -- `solve::solve_checks` meets its contract.
 use mathlib.Core.Path.{_∙_}
 use native.Mathlib.Omega.{arith}
 use borrow.Author.Needs.{needs}
 use borrow.Author.Tests.{eq-eqb, ne-eqb}
-use Rattle.answers.specs.Answers.{pass}
+use Rattle.answers.specs.Answers.{done}
 use Rattle.solve.specs.Solve.{solveChecks}
 use Rattle.solve.proofs.Checks.{stops, there, goes}
 use Rattle.solve.proofs.solve_checks.Statement.{statement}
@@ -16,22 +17,22 @@ returns : tie.Need-returns
 unfolding solveChecks
 returns c = stops (c .before .before .before .args .m) (c .before .before .before .args .n) (c .before .before .before .args .has-u) (c .before .before .before .args .has-vt) _ (c .before .before .parts .ensures) (c .if1 .taken)
 
-refusal-requires : tie.Need-refusal-requires
-refusal-requires c κs = search needs
+refused-requires : tie.Need-refused-requires
+refused-requires c κs = search needs
 
 returns-2 : tie.Need-returns-2
 unfolding solveChecks
-returns-2 c = c .refusal .ensures ∙ rw (ne-eqb _ _ (c .before .if2 .taken)) (goes _ _ _ _ _ (there (c .before .before .before .before .before .args .m) (c .before .before .before .before .before .args .n) (c .before .before .before .before .before .args .has-u) (c .before .before .before .before .before .args .has-vt) pass (c .before .before .before .before .parts .ensures) (c .before .before .if1 .left)))
+returns-2 c = c .refused .ensures ∙ rw (ne-eqb _ _ (c .before .if2 .taken)) (goes _ _ _ _ _ (there (c .before .before .before .before .before .args .m) (c .before .before .before .before .before .args .n) (c .before .before .before .before .before .args .has-u) (c .before .before .before .before .before .args .has-vt) (done 0) (c .before .before .before .before .parts .ensures) (c .before .before .if1 .left)))
 
 decomposition-length-requires : tie.Need-decomposition-length-requires
-decomposition-length-requires c κs = omega (arith, (there (c .before .before .before .before .args .m) (c .before .before .before .before .args .n) (c .before .before .before .before .args .has-u) (c .before .before .before .before .args .has-vt) pass (c .before .before .before .parts .ensures) (c .before .if1 .left)))
+decomposition-length-requires c κs = omega (arith, (there (c .before .before .before .before .args .m) (c .before .before .before .before .args .n) (c .before .before .before .before .args .has-u) (c .before .before .before .before .args .has-vt) (done 0) (c .before .before .before .parts .ensures) (c .before .if1 .left)))
 
 lengths-requires : tie.Need-lengths-requires
 lengths-requires c κs = search needs
 
 returns-3 : tie.Need-returns-3
 unfolding solveChecks
-returns-3 c = c .lengths .ensures ∙ rw (eq-eqb _ _ (c .before .before .if2 .left), c .before .decomposition-length .ensures) (goes _ _ _ _ _ (there (c .before .before .before .before .before .before .args .m) (c .before .before .before .before .before .before .args .n) (c .before .before .before .before .before .before .args .has-u) (c .before .before .before .before .before .before .args .has-vt) pass (c .before .before .before .before .before .parts .ensures) (c .before .before .before .if1 .left)))
+returns-3 c = c .lengths .ensures ∙ rw (eq-eqb _ _ (c .before .before .if2 .left), c .before .decomposition-length .ensures) (goes _ _ _ _ _ (there (c .before .before .before .before .before .before .args .m) (c .before .before .before .before .before .before .args .n) (c .before .before .before .before .before .before .args .has-u) (c .before .before .before .before .before .before .args .has-vt) (done 0) (c .before .before .before .before .before .parts .ensures) (c .before .before .before .if1 .left)))
 
 pub solve-checks-spec : {M : Type 1} → statement M
 solve-checks-spec =
@@ -39,7 +40,7 @@ solve-checks-spec =
     (tie.spec
     parts-requires
     returns
-    refusal-requires
+    refused-requires
     returns-2
     decomposition-length-requires
     lengths-requires

@@ -1,8 +1,9 @@
+-- Generated from the answers file beside it by tools/prove/prove.py: edit that.
 -- `solve::solve_marked` meets its contract.
 use mathlib.Core.Path.{sym}
 use native.Mathlib.Omega.{arith}
 use borrow.Author.Needs.{needs}
-use Rattle.answers.specs.Answers.{least-le}
+use Rattle.answers.specs.AnswersLaws.{least-le}
 use lib.Seq.{length-take-le}
 use Rattle.solve.proofs.solve_marked.Statement.{statement}
 use Rattle.solve.proofs.solve_marked.Tie as tie

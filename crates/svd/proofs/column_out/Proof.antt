@@ -1,9 +1,11 @@
+-- Generated from the answers file beside it by tools/prove/prove.py: edit that.
 -- `svd::column_out` meets its contract.
 use mathlib.Core.Path.{_≡_, refl}
 use Prim.Native.Nat.{_-_, _≤_}
 use native.Mathlib.Omega.{arith}
 use lib.ListN.{length}
-use Rattle.grid.specs.Loop.{upto, start, next, done, down}
+use Rattle.grid.specs.Loop.{upto, down}
+use Rattle.grid.specs.LoopLaws.{start, next, done}
 use Rattle.svd.specs.Svd.{cellStep, columnOut}
 use Rattle.svd.proofs.column_out.Statement.{statement}
 use Rattle.svd.proofs.column_out.Tie as tie

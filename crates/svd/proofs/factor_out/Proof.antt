@@ -1,11 +1,13 @@
+-- Generated from the answers file beside it by tools/prove/prove.py: edit that.
 -- `svd::factor_out` meets its contract.
 use mathlib.Core.Path.{_≡_, refl}
 use Prim.Native.Nat.{_-_, _≤_}
 use native.Mathlib.Omega.{arith}
 use lib.ListN.{length}
-use Rattle.grid.specs.Loop.{upto, start, next, done, down}
+use Rattle.grid.specs.Loop.{upto, down}
+use Rattle.grid.specs.LoopLaws.{start, next, done}
 use Rattle.svd.specs.Svd.{sortStep, factorOut}
-use Rattle.svd.specs.Known.{column-of}
+use Rattle.grid.specs.TableLaws.{row-end}
 use Rattle.svd.proofs.factor_out.Statement.{statement}
 use Rattle.svd.proofs.factor_out.Tie as tie
 
@@ -25,10 +27,10 @@ element-copy-out-j : tie.Need-element-copy-out-j Inv-loop μ-loop
 element-copy-out-j c = omega (arith, c .before .before .before .before .pre .few)
 
 mul-column-out : tie.Need-mul-column-out Inv-loop μ-loop
-mul-column-out c = omega (arith, column-of (c .before .before .before .before .before .args .cols) (c .before .before .before .before .before .args .rows) _ (c .before .before .before .before .before .pre .named (c .before .before .loop .k) (omega arith)), c .before .before .before .before .before .pre .there)
+mul-column-out c = omega (arith, row-end (c .before .before .before .before .before .args .cols) (c .before .before .before .before .before .args .rows) _ (c .before .before .before .before .before .pre .named (c .before .before .loop .k) (omega arith)), c .before .before .before .before .before .pre .there)
 
 add-column-out : tie.Need-add-column-out Inv-loop μ-loop
-add-column-out c = omega (arith, column-of (c .before .before .before .before .before .args .cols) (c .before .before .before .before .before .args .rows) _ (c .before .before .before .before .before .pre .named (c .before .before .loop .k) (omega arith)), c .before .before .before .before .before .pre .there)
+add-column-out c = omega (arith, row-end (c .before .before .before .before .before .args .cols) (c .before .before .before .before .before .args .rows) _ (c .before .before .before .before .before .pre .named (c .before .before .loop .k) (omega arith)), c .before .before .before .before .before .pre .there)
 
 mul-column-out-2 : tie.Need-mul-column-out-2 Inv-loop μ-loop
 mul-column-out-2 c = omega (arith, c .before .before .before .before .before .pre .room (c .before .before .loop .k) 0 (omega arith) (c .before .before .before .before .before .pre .some (omega arith)))
@@ -37,7 +39,7 @@ add-column-out-2 : tie.Need-add-column-out-2 Inv-loop μ-loop
 add-column-out-2 c = omega (arith, c .before .before .before .before .before .pre .room (c .before .before .loop .k) 0 (omega arith) (c .before .before .before .before .before .pre .some (omega arith)))
 
 column-out-requires : tie.Need-column-out-requires Inv-loop μ-loop
-column-out-requires c κs = (omega (arith, column-of (c .before .before .before .before .before .before .args .cols) (c .before .before .before .before .before .before .args .rows) _ (c .before .before .before .before .before .before .pre .named (c .before .before .before .loop .k) (omega arith)), c .before .before .before .before .before .before .pre .there), λ i h. omega (arith, c .before .before .before .before .before .before .pre .room (c .before .before .before .loop .k) i (omega arith) h))
+column-out-requires c κs = (omega (arith, row-end (c .before .before .before .before .before .before .args .cols) (c .before .before .before .before .before .before .args .rows) _ (c .before .before .before .before .before .before .pre .named (c .before .before .before .loop .k) (omega arith)), c .before .before .before .before .before .before .pre .there), λ i h. omega (arith, c .before .before .before .before .before .before .pre .room (c .before .before .before .loop .k) i (omega arith) h))
 
 add-k : tie.Need-add-k Inv-loop μ-loop
 add-k c = omega arith

@@ -1,10 +1,12 @@
+-- Generated from the answers file beside it by tools/prove/prove.py: edit that.
 -- `svd::load_eye` meets its contract.
 use mathlib.Core.Path.{_≡_, refl}
 use Prim.Native.Nat.{_-_, _≤_}
 use native.Mathlib.Omega.{arith}
 use lib.ListN.{length}
-use Rattle.grid.specs.Loop.{upto, start, next, done}
-use Rattle.jacobi.specs.Place.{column}
+use Rattle.grid.specs.Loop.{upto}
+use Rattle.grid.specs.LoopLaws.{start, next, done}
+use Rattle.grid.specs.TableLaws.{row-end}
 use Rattle.svd.specs.Svd.{eyeStep, eyed}
 use Rattle.svd.proofs.load_eye.Statement.{statement}
 use Rattle.svd.proofs.load_eye.Tie as tie
@@ -19,22 +21,22 @@ loop-holds : tie.Need-loop-holds Inv-loop μ-loop
 loop-holds c = (omega arith, refl, start _ _ _)
 
 mul-put1 : tie.Need-mul-put1 Inv-loop μ-loop
-mul-put1 c = omega (arith, column (c .before .before .before .before .args .cols) (c .before .before .before .before .args .cols) (c .before .before .loop .j) (omega arith))
+mul-put1 c = omega (arith, row-end (c .before .before .before .before .args .cols) (c .before .before .before .before .args .cols) (c .before .before .loop .j) (omega arith))
 
 mul-put1-2 : tie.Need-mul-put1-2 Inv-loop μ-loop
-mul-put1-2 c = omega (arith, column (c .before .before .before .before .args .cols) (c .before .before .before .before .args .cols) (c .before .before .loop .j) (omega arith))
+mul-put1-2 c = omega (arith, row-end (c .before .before .before .before .args .cols) (c .before .before .before .before .args .cols) (c .before .before .loop .j) (omega arith))
 
 add-put1 : tie.Need-add-put1 Inv-loop μ-loop
-add-put1 c = omega (arith, column (c .before .before .before .before .args .cols) (c .before .before .before .before .args .cols) (c .before .before .loop .j) (omega arith))
+add-put1 c = omega (arith, row-end (c .before .before .before .before .args .cols) (c .before .before .before .before .args .cols) (c .before .before .loop .j) (omega arith))
 
 add-put1-2 : tie.Need-add-put1-2 Inv-loop μ-loop
-add-put1-2 c = omega (arith, column (c .before .before .before .before .args .cols) (c .before .before .before .before .args .cols) (c .before .before .loop .j) (omega arith))
+add-put1-2 c = omega (arith, row-end (c .before .before .before .before .args .cols) (c .before .before .before .before .args .cols) (c .before .before .loop .j) (omega arith))
 
 put1-requires : tie.Need-put1-requires Inv-loop μ-loop
-put1-requires c κs = omega (arith, column (c .before .before .before .before .args .cols) (c .before .before .before .before .args .cols) (c .before .before .loop .j) (omega arith))
+put1-requires c κs = omega (arith, row-end (c .before .before .before .before .args .cols) (c .before .before .before .before .args .cols) (c .before .before .loop .j) (omega arith))
 
 add-j : tie.Need-add-j Inv-loop μ-loop
-add-j c = omega (arith, column (c .before .before .before .before .before .before .before .args .cols) (c .before .before .before .before .before .before .before .args .cols) (c .before .before .before .before .before .loop .j) (omega arith))
+add-j c = omega (arith, row-end (c .before .before .before .before .before .before .before .args .cols) (c .before .before .before .before .before .before .before .args .cols) (c .before .before .before .before .before .loop .j) (omega arith))
 
 loop-less : tie.Need-loop-less Inv-loop μ-loop
 loop-less c = omega arith

@@ -1,11 +1,14 @@
+-- Generated from the answers file beside it by tools/prove/prove.py: edit that.
 -- `svd::load_matrix` meets its contract.
 use mathlib.Core.Path.{_≡_, refl}
 use Prim.Native.Nat.{_-_, _≤_}
 use native.Mathlib.Omega.{arith}
 use lib.ListN.{length}
-use Rattle.grid.specs.Loop.{upto, start, next, done}
-use Rattle.jacobi.specs.Jacobi.{Sized}
-use Rattle.jacobi.specs.Place.{column}
+use Rattle.grid.specs.Loop.{upto}
+use Rattle.grid.specs.LoopLaws.{start, next, done}
+use Rattle.jacobi.specs.Kept.{Sized}
+use native.Mathlib.Nat.{mul-comm}
+use Rattle.grid.specs.TableLaws.{row-end}
 use Rattle.svd.specs.Svd.{columnLoaded, matrixLoaded}
 use Rattle.svd.proofs.load_matrix.Statement.{statement}
 use Rattle.svd.proofs.load_matrix.Tie as tie
@@ -20,7 +23,7 @@ loop-holds : tie.Need-loop-holds Inv-loop μ-loop
 loop-holds c = (omega arith, refl, start _ _ _)
 
 load-column-requires : tie.Need-load-column-requires Inv-loop μ-loop
-load-column-requires c κs = omega (arith, column (c .before .before .before .before .before .args .rows) (c .before .before .before .before .before .args .cols) (c .before .before .loop .j) (omega arith), c .before .before .before .before .before .pre .3)
+load-column-requires c κs = omega (arith, mul-comm (c .before .before .before .before .before .args .rows) (c .before .before .before .before .before .args .cols), row-end (c .before .before .before .before .before .args .cols) (c .before .before .before .before .before .args .rows) (c .before .before .loop .j) (omega arith), c .before .before .before .before .before .pre .3)
 
 add-j : tie.Need-add-j Inv-loop μ-loop
 add-j c = omega arith

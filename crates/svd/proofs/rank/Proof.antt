@@ -1,9 +1,11 @@
+-- Generated from the answers file beside it by tools/prove/prove.py: edit that.
 -- `svd::rank` meets its contract.
 use mathlib.Core.Path.{_≡_}
 use Prim.Native.Nat.{ℕ, _+_, _-_, _≤_}
 use native.Mathlib.Omega.{arith}
 use borrow.Author.Needs.{needs}
-use Rattle.grid.specs.Loop.{upto, start, next, done}
+use Rattle.grid.specs.Loop.{upto}
+use Rattle.grid.specs.LoopLaws.{start, next, done}
 use Rattle.grid.specs.Real.{at}
 use Rattle.svd.specs.Order.{ahead, countStep, rank}
 use Rattle.svd.specs.Rank.{one-le}

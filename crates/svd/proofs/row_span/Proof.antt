@@ -1,3 +1,4 @@
+-- Generated from the answers file beside it by tools/prove/prove.py: edit that.
 -- `svd::row_span` meets its contract.
 use mathlib.Core.Path.{_≡_, _∙_}
 use Prim.Native.Nat.{ℕ, _*_, _≤_}
@@ -5,8 +6,9 @@ use native.Mathlib.Omega.{arith}
 use borrow.Author.Needs.{needs}
 use borrow.Author.Tests.{lt-ltb, le-ltb, lt-leb, le-leb, eq-eqb, ne-eqb}
 use Rattle.svd.specs.Row.{rowSpan}
-use Rattle.svd.specs.Row.{row-fits}
-use Rattle.answers.specs.Answers.{least, least-le, product-le}
+use Rattle.svd.specs.RowLaws.{row-fits}
+use Rattle.answers.specs.Answers.{least}
+use Rattle.answers.specs.AnswersLaws.{least-le, product-le}
 use Rattle.svd.proofs.row_span.Statement.{statement}
 use Rattle.svd.proofs.row_span.Tie as tie
 

@@ -1,3 +1,4 @@
+-- Generated from the answers file beside it by tools/prove/prove.py: edit that.
 -- `svd::run` meets its contract.
 use mathlib.Core.Path.{_≡_, _∙_, refl}
 use Prim.Native.Nat.{ℕ}
@@ -7,7 +8,7 @@ use lib.ListN.{length}
 use denote.Ref.{now}
 use Rattle.grid.specs.Real.{Vec, zeros}
 use Rattle.answers.specs.Answers.{least}
-use Rattle.jacobi.specs.Jacobi.{Sized}
+use Rattle.jacobi.specs.Kept.{Sized}
 use Rattle.svd.specs.Svd.{longest, loaded, ran}
 use Rattle.svd.specs.Known.{Checked, sized}
 use Rattle.svd.proofs.run.Statement.{statement}

@@ -1,3 +1,4 @@
+-- Generated from the answers file beside it by tools/prove/prove.py: edit that.
 -- `svd::sorted_out` meets its contract.
 use mathlib.Core.Path.{_≡_}
 use Prim.Native.Nat.{ℕ, _≤_}
@@ -7,9 +8,10 @@ use denote.Ref.{now}
 use mathlib.Core.List.{List}
 use lib.Ieee.{Float}
 use lib.ListN.{replicate}
-use Rattle.answers.specs.Answers.{least, least-le}
-use Rattle.svd.specs.Order.{Below, noted, order}
-use Rattle.svd.specs.Rank.{order-below}
+use Rattle.answers.specs.Answers.{least}
+use Rattle.answers.specs.AnswersLaws.{least-le}
+use Rattle.svd.specs.Order.{noted, order}
+use Rattle.svd.specs.Rank.{Below, order-below}
 use Rattle.svd.specs.Svd.{sortedOut}
 use Rattle.svd.specs.Known.{spaces, values-out, left-out, right-out}
 use Rattle.svd.proofs.sorted_out.Statement.{statement}

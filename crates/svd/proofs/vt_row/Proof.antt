@@ -1,11 +1,14 @@
+-- Generated from the answers file beside it by tools/prove/prove.py: edit that.
 -- `svd::vt_row` meets its contract.
 use mathlib.Core.Path.{_∙_, sym, ap, subst}
 use Prim.Native.Nat.{_≤_}
 use native.Mathlib.Omega.{arith}
 use borrow.Author.Needs.{needs}
 use lib.ListN.{length}
-use denote.Ref.{now}
-use Rattle.svd.specs.Row.{partOf, Within}
+use denote.Ref.{now, ptr}
+use Rattle.svd.specs.Row.{partOf, partAt}
+use Rattle.svd.specs.RowLaws.{Within}
+use Rattle.svd.specs.Placed.{at-start}
 use Rattle.svd.proofs.vt_row.Statement.{statement}
 use Rattle.svd.proofs.vt_row.Tie as tie
 
@@ -31,7 +34,7 @@ part-result-end : tie.Need-part-result-end
 part-result-end c = search needs
 
 returns : tie.Need-returns
-returns c = ap (partOf (now (c .before .before .before .before .before .args .decomposition))) (sym (c .before .enum-told .given .1) ∙ c .before .before .before .row-span .ensures .0)
+returns c = (ap (partOf (now (c .before .before .before .before .before .args .decomposition))) (sym (c .before .enum-told .given .1) ∙ c .before .before .before .row-span .ensures .0), at-start (ptr (c .before .before .before .before .before .args .decomposition)) ∙ ap (partAt (ptr (c .before .before .before .before .before .args .decomposition))) (sym (c .before .enum-told .given .1) ∙ c .before .before .before .row-span .ensures .0))
 
 mul-result : tie.Need-mul-result
 mul-result c = omega (arith, inside (c .before))
@@ -46,7 +49,7 @@ part-result-end-2 : tie.Need-part-result-end-2
 part-result-end-2 c = inside (c .before) .1
 
 returns-2 : tie.Need-returns-2
-returns-2 c = ap (partOf (now (c .before .before .before .before .before .before .args .decomposition))) (sym (c .before .before .a .given .1) ∙ c .before .before .before .before .row-span .ensures .0)
+returns-2 c = (ap (partOf (now (c .before .before .before .before .before .before .args .decomposition))) (sym (c .before .before .a .given .1) ∙ c .before .before .before .before .row-span .ensures .0), ap (partAt (ptr (c .before .before .before .before .before .before .args .decomposition))) (sym (c .before .before .a .given .1) ∙ c .before .before .before .before .row-span .ensures .0))
 
 pub vt-row-spec : {M : Type 1} → statement M
 vt-row-spec =

@@ -1,9 +1,11 @@
+-- Generated from the answers file beside it by tools/prove/prove.py: edit that.
 -- `svd::work_length` meets its contract.
 use mathlib.Core.Path.{_≡_}
 use Prim.Native.Nat.{ℕ, _*_, _≤_}
 use native.Mathlib.Omega.{arith}
 use borrow.Author.Needs.{needs}
-use Rattle.answers.specs.Answers.{least, least-le, product-le}
+use Rattle.answers.specs.Answers.{least}
+use Rattle.answers.specs.AnswersLaws.{least-le, product-le}
 use Rattle.svd.specs.Svd.{longest, workLength}
 use Rattle.svd.specs.Known.{longest-le}
 use Rattle.svd.proofs.work_length.Statement.{statement}

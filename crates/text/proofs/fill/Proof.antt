@@ -1,3 +1,4 @@
+-- Generated from the answers file beside it by tools/prove/prove.py: edit that.
 -- `text::fill` meets its contract.
 use mathlib.Core.Path.{_≡_, _∙_, refl, ap}
 use Prim.Native.Nat.{ℕ, _+_, _-_, _*_, _<_, _≤_}
@@ -5,10 +6,10 @@ use native.Mathlib.Omega.{arith}
 use borrow.Author.Needs.{needs}
 use lib.ListN.{length, set}
 use lib.Seq.{sets}
-use Rattle.text.specs.Reading.{table, floatAt, float, digitAt, groupAt, every, byte}
+use Rattle.text.specs.Reading.{table, float, digitAt, groupAt, every, byte}
 use Rattle.text.specs.Writing.{separator}
 use Rattle.text.specs.Laws.{both, every-at}
-use Rattle.text.specs.Stores.{table-more}
+use Rattle.text.specs.Stores.{floatAt, table-more}
 use lib.Ieee.{Float}
 use lib.Dec.{eqb}
 use mathlib.Core.Bool.{true}

@@ -1,3 +1,4 @@
+-- Generated from the answers file beside it by tools/prove/prove.py: edit that.
 -- `text::keep` meets its contract.
 use mathlib.Core.Path.{sym}
 use borrow.Author.Needs.{needs}

@@ -1,3 +1,4 @@
+-- Generated from the answers file beside it by tools/prove/prove.py: edit that.
 -- `text::put_number` meets its contract.
 use native.Mathlib.Omega.{arith}
 use Rattle.text.specs.Stores.{places-most, number-put}

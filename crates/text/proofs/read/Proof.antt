@@ -1,8 +1,9 @@
+-- Generated from the answers file beside it by tools/prove/prove.py: edit that.
 -- `text::read` meets its contract.
 use mathlib.Core.Path.{_∙_, sym}
 use borrow.Author.Needs.{needs}
 use Rattle.text.specs.Reading.{reading}
-use Rattle.text.specs.Accepts.{head-known}
+use Rattle.text.specs.AcceptsLaws.{head-known}
 use denote.Ref.{now}
 use Rattle.text.proofs.read.Statement.{statement}
 use Rattle.text.proofs.read.Tie as tie

@@ -1,3 +1,4 @@
+-- Generated from the answers file beside it by tools/prove/prove.py: edit that.
 -- `text::read_number` meets its contract.
 use borrow.Author.Needs.{needs}
 use borrow.Author.Tests.{le-leb, lt-leb, eq-eqb, ne-eqb}

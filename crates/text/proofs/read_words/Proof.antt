@@ -1,3 +1,4 @@
+-- Generated from the answers file beside it by tools/prove/prove.py: edit that.
 -- `text::read_words` meets its contract.
 use mathlib.Core.Path.{_∙_, refl, sym}
 use Prim.Native.Nat.{_+_, _*_}

@@ -1,3 +1,4 @@
+-- Generated from the answers file beside it by tools/prove/prove.py: edit that.
 -- `tred::apply` meets its contract.
 use native.Mathlib.Omega.{arith}
 use borrow.Author.Needs.{needs}
@@ -8,8 +9,8 @@ use Rattle.tred.proofs.apply.Tie as tie
 column-over-requires : tie.Need-column-over-requires
 column-over-requires c κs = search needs
 
-turn-requires : tie.Need-turn-requires
-turn-requires c κs = search needs
+turn-columns-requires : tie.Need-turn-columns-requires
+turn-columns-requires c κs = search needs
 
 same-length : tie.Need-same-length
 same-length c = omega arith
@@ -19,7 +20,7 @@ same-length-2 c = omega arith
 
 returns : tie.Need-returns
 unfolding apply
-returns c = rw (c .before .before .before .before .before .before .before .before .before .before .if1 .taken, ← c .before .before .before .before .before .before .before .column-over .ensures, ← c .before .before .turn .ensures)
+returns c = rw (c .before .before .before .before .before .before .before .before .before .before .if1 .taken, ← c .before .before .before .before .before .before .before .column-over .ensures, ← c .before .before .turn-columns .ensures)
 
 returns-2 : tie.Need-returns-2
 unfolding apply
@@ -28,4 +29,10 @@ returns-2 c = rw (c .if1 .left)
 pub apply-spec : {M : Type 1} → statement M
 apply-spec =
     tie.close
-    (tie.spec column-over-requires turn-requires same-length same-length-2 returns returns-2)
+    (tie.spec
+    column-over-requires
+    turn-columns-requires
+    same-length
+    same-length-2
+    returns
+    returns-2)

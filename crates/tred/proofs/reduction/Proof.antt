@@ -1,10 +1,12 @@
+-- Generated from the answers file beside it by tools/prove/prove.py: edit that.
 -- `tred::reduction` meets its contract.
 use mathlib.Core.Path.{_≡_, refl}
 use Prim.Native.Nat.{_-_, _<_}
 use native.Mathlib.Omega.{arith}
 use borrow.Author.Needs.{needs}
 use lib.ListN.{length}
-use Rattle.grid.specs.Loop.{down, down-more, down-done}
+use Rattle.grid.specs.Loop.{down}
+use Rattle.grid.specs.LoopLaws.{down-more, down-done}
 use Rattle.tred.specs.Tred.{householder, reduction}
 use Rattle.tred.proofs.reduction.Statement.{statement}
 use Rattle.tred.proofs.reduction.Tie as tie

@@ -1,10 +1,12 @@
+-- Generated from the answers file beside it by tools/prove/prove.py: edit that.
 -- `tred::take_off` meets its contract.
 use mathlib.Core.Path.{_≡_, refl}
 use Prim.Native.Nat.{_-_, _≤_}
 use native.Mathlib.Omega.{arith}
 use borrow.Author.Needs.{needs}
 use lib.ListN.{length}
-use Rattle.grid.specs.Loop.{upto, start, next, done}
+use Rattle.grid.specs.Loop.{upto}
+use Rattle.grid.specs.LoopLaws.{start, next, done}
 use Rattle.tred.specs.Tred.{takeStep, takeOff}
 use Rattle.tred.proofs.take_off.Statement.{statement}
 use Rattle.tred.proofs.take_off.Tie as tie

@@ -1,3 +1,4 @@
+-- Generated from the answers file beside it by tools/prove/prove.py: edit that.
 -- `vectors::number` meets its contract.
 use mathlib.Core.Path.{_∙_, sym, subst}
 use borrow.Author.Needs.{needs}

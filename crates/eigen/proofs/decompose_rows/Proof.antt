@@ -1,10 +1,11 @@
--- `eigen::solve` meets its contract.
+-- Generated from the answers file beside it by tools/prove/prove.py: edit that.
+-- `eigen::decompose_rows` meets its contract.
 use native.Mathlib.Omega.{arith}
 use borrow.Author.Needs.{needs}
 use borrow.Author.Tests.{eq-eqb, ne-eqb}
 use Rattle.eigen.specs.Lent.{outward}
-use Rattle.eigen.proofs.solve.Statement.{statement}
-use Rattle.eigen.proofs.solve.Tie as tie
+use Rattle.eigen.proofs.decompose_rows.Statement.{statement}
+use Rattle.eigen.proofs.decompose_rows.Tie as tie
 
 decompose-requires : tie.Need-decompose-requires
 decompose-requires c κs = search needs
@@ -38,8 +39,8 @@ returns-2 : tie.Need-returns-2
 unfolding outward
 returns-2 c = rw (← c .before .before .before .before .before .before .before .before .before .before .before .before .decompose .ensures, eq-eqb _ _ (c .before .before .before .before .if1 .left), ← c .before .before .rows .ensures)
 
-pub solve-spec : {M : Type 1} → statement M
-solve-spec =
+pub decompose-rows-spec : {M : Type 1} → statement M
+decompose-rows-spec =
     tie.close
     (tie.spec
     decompose-requires

@@ -1,13 +1,15 @@
--- `tred::turn` meets its contract.
+-- Generated from the answers file beside it by tools/prove/prove.py: edit that.
+-- `tred::turn_columns` meets its contract.
 use mathlib.Core.Path.{_≡_, refl}
 use Prim.Native.Nat.{_-_, _≤_}
 use native.Mathlib.Omega.{arith}
 use borrow.Author.Needs.{needs}
 use lib.ListN.{length}
-use Rattle.grid.specs.Loop.{upto, start, next, done}
-use Rattle.tred.specs.Tred.{turnStep, turn}
-use Rattle.tred.proofs.turn.Statement.{statement}
-use Rattle.tred.proofs.turn.Tie as tie
+use Rattle.grid.specs.Loop.{upto}
+use Rattle.grid.specs.LoopLaws.{start, next, done}
+use Rattle.tred.specs.Tred.{turnStep, turnColumns}
+use Rattle.tred.proofs.turn_columns.Statement.{statement}
+use Rattle.tred.proofs.turn_columns.Tie as tie
 
 abbrev Inv-loop : tie.InvT-loop
 Inv-loop n m v₀ d j₀ v j = (j ≤ m) × (length v ≡ length v₀) × (v ≡ upto (turnStep n m d) 0 j v₀)
@@ -37,11 +39,11 @@ same-length : tie.Need-same-length Inv-loop μ-loop
 same-length c = omega arith
 
 returns : tie.Need-returns Inv-loop μ-loop
-unfolding turn
+unfolding turnColumns
 returns c = done _ _ _ (omega arith) (omega arith) (c .before .loop .inv .2)
 
-pub turn-spec : {M : Type 1} → statement M
-turn-spec =
+pub turn-columns-spec : {M : Type 1} → statement M
+turn-columns-spec =
     tie.close
     (tie.spec
     Inv-loop

@@ -1,12 +1,14 @@
--- `ql::least` meets its contract.
+-- Generated from the answers file beside it by tools/prove/prove.py: edit that.
+-- `ql::least_from` meets its contract.
 use mathlib.Core.Path.{_≡_}
 use Prim.Native.Nat.{_+_, _-_, _≤_}
 use native.Mathlib.Omega.{arith}
 use borrow.Author.Needs.{needs}
-use Rattle.grid.specs.Loop.{upto, start, next, done}
-use Rattle.ql.specs.Ql.{better, least}
-use Rattle.ql.proofs.least.Statement.{statement}
-use Rattle.ql.proofs.least.Tie as tie
+use Rattle.grid.specs.Loop.{upto}
+use Rattle.grid.specs.LoopLaws.{start, next, done}
+use Rattle.ql.specs.Ql.{better, leastFrom}
+use Rattle.ql.proofs.least_from.Statement.{statement}
+use Rattle.ql.proofs.least_from.Tie as tie
 
 abbrev Inv-loop : tie.InvT-loop
 Inv-loop n i d p b₀ j₀ b j = (i + 1 ≤ j) × (j ≤ n) × (b ≡ upto (better d) (i + 1) j b₀)
@@ -36,11 +38,11 @@ loop-again : tie.Need-loop-again Inv-loop μ-loop
 loop-again c = (omega arith, omega arith, next _ _ _ _ (omega arith) (c .before .before .loop .inv .2) (c .better .ensures))
 
 returns : tie.Need-returns Inv-loop μ-loop
-unfolding least
+unfolding leastFrom
 returns c = rw (← c .before .before .at1 .ensures) (done _ _ _ (omega arith) (omega arith) (c .before .loop .inv .2))
 
-pub least-spec : {M : Type 1} → statement M
-least-spec =
+pub least-from-spec : {M : Type 1} → statement M
+least-from-spec =
     tie.close
     (tie.spec
     Inv-loop

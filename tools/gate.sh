@@ -1,0 +1,50 @@
+#!/bin/sh
+# gate.sh TARGET.. -- TARGET..: the merge gate. The kit, the layout and the first make targets; rt ci, which proves everything from nothing;
+# then the other targets, over what it proved. rt's own line, 'N passed, 0 failed', is written last and only if all of it passed: where rt ci writes it, it stands
+# behind 'rt ci: ', so that a gate that fails has no such line.
+set -u
+cd "$(dirname "$0")/.."
+RT=${RT:-rt} MAKE=${MAKE:-make}
+log=build/gate.log
+began=$(date +%s)
+
+passed() { echo "gate: $1 ($(($(date +%s) - from)) s)"; }
+failed() { # STATUS WHAT
+    echo "gate: FAILED: $2 (exit $1)"
+    exit "$1"
+}
+step() { # WHAT COMMAND..
+    from=$(date +%s) what=$1
+    shift
+    "$@" || failed $? "$what"
+    passed "$what"
+}
+
+step kit sh tools/kit.sh
+step layout "$RT" fmt --check
+
+while [ $# -gt 0 ] && [ "$1" != -- ]; do
+    step "$1" "$MAKE" -s --no-print-directory "$1"
+    shift
+done
+[ $# -eq 0 ] || shift
+
+# Nothing of an earlier run is used. A pipe's status is its last command's, so rt's own is kept in a file.
+from=$(date +%s)
+rm -rf build dist
+mkdir build
+{ "$RT" ci 2>&1; echo $? >"$log.status"; } | while IFS= read -r text; do
+    printf '%s\n' "$text" >>"$log"
+    case $text in [0-9]*' passed, '[0-9]*' failed') text="rt ci: $text" ;; esac
+    printf '%s\n' "$text"
+done
+status=$(cat "$log.status" 2>/dev/null || echo 2)
+line=$(tail -n 1 "$log")
+[ "$status" -eq 0 ] || failed "$status" "rt ci"
+echo "$line" | grep -Eqx '[1-9][0-9]* passed, 0 failed' || failed 1 "rt ci: its last line is not 'N passed, 0 failed'"
+passed "rt ci"
+
+# The archive is made of what rt ci has just proved; the crate of the entries alone is proved once more.
+for target; do step "$target" "$MAKE" -s --no-print-directory "$target"; done
+echo "gate: all passed ($(($(date +%s) - began)) s)"
+echo "$line"

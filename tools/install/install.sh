@@ -1,0 +1,24 @@
+#!/bin/sh
+# install.sh ROOT PREFIX LIB VERSION ARCHIVE SHARED: copies what a C codec needs under ROOT, libraries under ROOT/LIB. PREFIX is
+# where pkg-config shall look for it; CMake finds it from its own place. Run at the repository's root.
+set -eu
+
+root=$1 prefix=$2 lib=$3 version=$4 archive=$5 shared=$6
+major=${version%%.*}
+up=$(echo "$lib" | sed 's|[^/][^/]*|..|g') # from ROOT/LIB back to ROOT
+
+# fill FILE FOLDER: the file from its template.
+fill() {
+    sed "s|@PREFIX@|$prefix|; s|@VERSION@|$version|; s|@MAJOR@|$major|; s|@LIB@|$lib|; s|@UP@|$up|" "tools/install/$1.in" >"$2/$1"
+}
+
+mkdir -p "$root/include" "$root/$lib/pkgconfig" "$root/$lib/cmake/crewelmarsh" "$root/share/doc/crewelmarsh"
+cp include/crewelmarsh.h "$root/include/"
+cp LICENSE NOTICE "$root/share/doc/crewelmarsh/"
+cp "$archive" "$root/$lib/libcrewelmarsh.a"
+cp "$shared" "$root/$lib/libcrewelmarsh.so.$version"
+ln -sf "libcrewelmarsh.so.$version" "$root/$lib/libcrewelmarsh.so.$major"
+ln -sf "libcrewelmarsh.so.$major" "$root/$lib/libcrewelmarsh.so"
+fill crewelmarsh.pc "$root/$lib/pkgconfig"
+fill crewelmarshConfig.cmake "$root/$lib/cmake/crewelmarsh"
+fill crewelmarshConfigVersion.cmake "$root/$lib/cmake/crewelmarsh"
