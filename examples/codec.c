@@ -24,8 +24,8 @@ static int done(const char *call, struct crewelmarsh_answer a)
 {
     if (a.answer == CREWELMARSH_DONE)
         return 1;
-    printf("%s: answer %zu (%s), place %zu, count %zu\n", call, a.answer, crewelmarsh_text(a.answer), a.place,
-           a.count);
+    printf("%s: answer %zu (%s), place %zu, index %zu, count %zu\n", call, a.answer, crewelmarsh_text(a.answer),
+           a.place, a.index, a.count);
     return 0;
 }
 

@@ -1,7 +1,7 @@
 /*
  * Crewelmarsh: dense linear algebra for a codec. C99 and C++.
  *
- * Five entries, each taking sizes, flags and arrays of double and giving back three numbers:
+ * Five entries, each taking sizes, flags and arrays of double and giving back four numbers:
  *
  *     crewelmarsh_symmetric_eigen   values and vectors of a symmetric matrix
  *     crewelmarsh_svd               singular values, U and V^T of any matrix
@@ -28,24 +28,34 @@
  *
  * WHAT COMES BACK
  *
- * `answer` says what happened, `place` where, `count` how much work was done. Test `answer` after
- * every call: only 0 leaves a result. The same call gives the same bits, whatever work, result and
+ * `answer` says what happened, `place` where, `index` which number, `count` how much work was done. Test
+ * `answer` after every call: only 0 leaves a result. The same call gives the same bits, whatever work, result and
  * answer held before (T2 and T14 of docs/PROMISES.md). No entry writes an infinity or a NaN (T11).
  *
  *     answer   arrays afterwards
  *     0        result or answer full, work all +0.0
  *     1 to 6   all untouched
- *     7 to 9   result or answer, and work, all +0.0
+ *     7 to 10  result or answer, and work, all +0.0
  *
  * Matrix, decomposition and right side are only read.
  *
  * The tests run in the order of the numbers, so a 6 says that sizes, limit and flags were good, and a 7
- * that the lengths were good too. 8 and 9 come as the run meets them.
+ * that the lengths were good too. 8, 9 and 10 come as the run meets them.
+ *
+ * MARKS
+ *
+ * At some places of a run, its marks, arrays are looked at for a number that is not finite; `place` says
+ * which mark it was. The first such number decides: infinite gives 8, a NaN gives 10. `index` is its place
+ * counted from 0 through the mark's arrays, one behind the other, a matrix row by row. So with arrays of
+ * 3, 3 and 9 numbers index 2 is the last of the first, 4 the middle of the second, and 6 + i * 3 + j is cell
+ * (i, j) of the third. Each entry's comment names the arrays of each mark. They are the run's own: nothing of
+ * them is left after the call, and the index says where in the method things went wrong, which with the same
+ * input is the same on every machine. On every other answer the index is 0.
  *
  * MAGNITUDE
  *
  * Squares and products of the numbers are formed. Where the largest magnitude in a matrix lies outside
- * 2^-250 to 2^250 (about 1e-75 to 1e75) they may overflow or vanish: then mostly the answer is 8 or 9, but
+ * 2^-250 to 2^250 (about 1e-75 to 1e75) they may overflow or vanish: then mostly the answer is 8, 9 or 10, but
  * also 0 with numbers that are the defined ones and yet no eigenvectors or singular vectors (found by
  * trying: symmetric_eigen below about 2^-515, svd above about 2^252). Multiply such a matrix by a power of
  * two first, and the values by its inverse afterwards; the vectors stay. The same can befall a part of a
@@ -59,10 +69,10 @@
  *
  * WHICH LIBRARY
  *
- * In the library each entry's name ends in the major version, crewelmarsh_svd_abi1, and this header maps
+ * In the library each entry's name ends in the major version, crewelmarsh_svd_abi2, and this header maps
  * the plain name to it: that is what nm, a debugger and the linker show. So a program compiled with a
- * header of another major version doesn't link, and "undefined reference to crewelmarsh_svd_abi1" says
- * that the library is missing or is not of major version 1.
+ * header of another major version doesn't link, and "undefined reference to crewelmarsh_svd_abi2" says
+ * that the library is missing or is not of major version 2.
  */
 #ifndef CREWELMARSH_H
 #define CREWELMARSH_H
@@ -74,7 +84,7 @@
  * must be compiled anew. Another minor: something was added, or the bits of a result changed. Else another
  * patch.
  */
-#define CREWELMARSH_VERSION_MAJOR 1
+#define CREWELMARSH_VERSION_MAJOR 2
 #define CREWELMARSH_VERSION_MINOR 0
 #define CREWELMARSH_VERSION_PATCH 0
 #define CREWELMARSH_VERSION /* as a string */ \
@@ -103,6 +113,7 @@ extern "C" {
 struct crewelmarsh_answer {
     size_t answer; /* one of the numbers below */
     size_t place;  /* where, by the answer; 0 where nothing is said of it */
+    size_t index;  /* on 8 and 10 the number at the mark, in qr_q the column; else 0 */
     size_t count;  /* QL passes or sweeps run, the one that stopped the run included; else 0 */
 };
 
@@ -145,15 +156,16 @@ enum {
        Take lengths from the helpers below. They count doubles, not bytes, and depend on the flags. */
     CREWELMARSH_LENGTH = 6,
 
-    /* A number read is a NaN or infinite. Place: its index in the array, so row place / columns, column
+    /* A number read is a NaN or infinite. Place: where it stands in the array, so row place / columns, column
        place % columns; in solve, indices from decomposition_len on are of the right side.
        The fault is in what the caller computed. Look at samples, sums and divisions by zero there. */
     CREWELMARSH_NOT_FINITE = 7,
 
-    /* A number became a NaN or infinite during the run. Place: the mark where that was seen, see the
-       entry; in qr_q the column.
-       The input is finite but too large, see MAGNITUDE above: scale it so that its largest number is near
-       1. In solve and pseudo_inverse a singular value is too small to divide by: raise the tolerance. */
+    /* A number became infinite during the run: at a mark (see MARKS) the first that is not finite is +infinity
+       or -infinity. Place: the mark, see the entry; in qr_q the column. Index: the number; in qr_q the column.
+       A result is too large for a double. The input is finite but too large, see MAGNITUDE above: scale it down
+       by a power of two, so that its largest number is near 1. In solve and pseudo_inverse a singular value is
+       too small to divide by: raise the tolerance. */
     CREWELMARSH_OVERFLOW = 8,
 
     /* The limit is used up. Place: in symmetric_eigen the index l of the value being worked on, in svd
@@ -161,7 +173,16 @@ enum {
        With a limit below 60, try 60. At 60, svd gives this for many singular matrices, also small and
        plain ones such as (0 0; 1 6). For a covariance use symmetric_eigen, which takes them. Else code
        this tile without a transform, or with a fixed one. */
-    CREWELMARSH_LIMIT_USED = 9
+    CREWELMARSH_LIMIT_USED = 9,
+
+    /* A number became a NaN during the run: at a mark the first that is not finite is a NaN. Place and index
+       as for 8.
+       An operation had no value: infinity - infinity, 0 * infinity, infinity / infinity or 0 / 0. The input is
+       finite, so that mostly a number overflowed further back, between two marks: scale down as for 8. Where the
+       largest number is near 1 already, tiny ones stand beside it (in symmetric_eigen 2^-1074 beside 1): set to 0
+       what is that far below the largest. In solve and pseudo_inverse raise the tolerance as for 8, and don't
+       pass a negative one, which has values of 0 divided by. */
+    CREWELMARSH_INVALID = 10
 };
 
 /* A short text for an answer number, for logs. Never NULL. */
@@ -176,8 +197,9 @@ static inline const char *crewelmarsh_text(size_t answer)
     case CREWELMARSH_RIGHT_SIDE: return "the right side's length is not m";
     case CREWELMARSH_LENGTH: return "an array's length is wrong";
     case CREWELMARSH_NOT_FINITE: return "a number read is not finite";
-    case CREWELMARSH_OVERFLOW: return "a number computed is not finite";
+    case CREWELMARSH_OVERFLOW: return "a number computed is infinite";
     case CREWELMARSH_LIMIT_USED: return "the limit is used up";
+    case CREWELMARSH_INVALID: return "a number computed is not a number";
     default: return "no answer of crewelmarsh";
     }
 }
@@ -300,7 +322,12 @@ static inline size_t crewelmarsh_qr_q_answer_len(size_t m, size_t k)
  *   1, 2
  *   6  place 0 matrix, 1 work, 2 result
  *   7  place i * n + j, the first such on or below the diagonal, row by row
- *   8  place 0: after the reduction; 1: after a pass; 2: after the last value. Count: passes run
+ *   8, 10  place and index by the mark; count: passes run in all
+ *      place 0, after the reduction to a tridiagonal matrix: its diagonal (n), the subdiagonal (n: cell i stands
+ *               beside row i, cell 0 is 0), the transform (n * n)
+ *      place 1, after a pass: the diagonal (n), the subdiagonal (n: cell i stands below diagonal cell i, the last
+ *               is 0)
+ *      place 2, after the last value, before they are sorted: the values (n), the vectors (n * n)
  *   9  place: the value being worked on, 0 to n - 1. Count: passes run in all
  */
 struct crewelmarsh_answer crewelmarsh_symmetric_eigen(
@@ -329,7 +356,12 @@ struct crewelmarsh_answer crewelmarsh_symmetric_eigen(
  *   1, 2
  *   6  place 0 matrix, 1 work, 2 result
  *   7  place: index in the matrix
- *   8  place 1: after a sweep; 2: after the last, with the values found. Count: sweeps run
+ *   8, 10  place and index by the mark; count: sweeps run. Let L be the larger of m and n
+ *      place 1, after a sweep: the factor with L rows (L * r: the matrix, for m < n its transpose, turned so far),
+ *               then the other (r * r: the turns so far)
+ *      place 2, after the last sweep, before the values are sorted: the values (r), then both factors likewise,
+ *               the first with its columns divided by their lengths
+ *      So at place 1 index i * r + j is of column j; at place 2 index j below r is the length of column j
  *   9  place and count: sweeps run, which is the limit
  */
 struct crewelmarsh_answer crewelmarsh_svd(
@@ -392,7 +424,7 @@ static inline struct crewelmarsh_part crewelmarsh_vt_row(
  * tolerance  a singular value counts only where it is above the tolerance. max(m, n) * 2^-52 times the
  *            largest value is usual; 0 takes all that are not 0. Any double is taken: with a NaN or
  *            +infinity no value counts and the answer is all zeros, and with a negative one values
- *            of 0 are divided by, which ends in 8
+ *            of 0 are divided by, which ends in 8 or 10
  * decomposition   the result of svd: r + m * r + r * n, only read
  * right_side m, only read
  * answer     n. On 0: x
@@ -401,7 +433,7 @@ static inline struct crewelmarsh_part crewelmarsh_vt_row(
  *   0, 1, 3, 4, 5
  *   6  place 0 decomposition, 1 answer
  *   7  place: index in the decomposition, or decomposition_len + index in the right side
- *   8  place 2
+ *   8, 10  place 2; index: in the answer as it was about to be given
  */
 struct crewelmarsh_answer crewelmarsh_solve(
     size_t m,
@@ -423,7 +455,7 @@ struct crewelmarsh_answer crewelmarsh_solve(
  *   0, 1, 3, 4
  *   6  place 0 decomposition, 1 answer
  *   7  place: index in the decomposition
- *   8  place 2
+ *   8, 10  place 2; index: in the answer as it was about to be given, so row index / m, column index % m
  */
 struct crewelmarsh_answer crewelmarsh_pseudo_inverse(
     size_t m,
@@ -446,7 +478,7 @@ struct crewelmarsh_answer crewelmarsh_pseudo_inverse(
  *   0, 1
  *   6  place 0 matrix, 1 answer
  *   7  place: index in the matrix
- *   8  place: the column whose length is not finite
+ *   8, 10  place and index: the first column whose length is infinite, or a NaN
  */
 struct crewelmarsh_answer crewelmarsh_qr_q(
     size_t m,

@@ -10,6 +10,7 @@ use std::time::Instant;
 struct Answer {
     answer: usize,
     place: usize,
+    index: usize,
     count: usize,
 }
 
@@ -30,7 +31,7 @@ macro_rules! entries {
                 unsafe extern "C" {
                     fn $name(out: *mut Answer, $($p: $t),*) -> *mut Answer;
                 }
-                let mut out = Answer { answer: 0, place: 0, count: 0 };
+                let mut out = Answer { answer: 0, place: 0, index: 0, count: 0 };
                 unsafe { $name(&mut out, $($p),*) };
                 out
             }
@@ -39,15 +40,15 @@ macro_rules! entries {
 }
 
 entries! {
-    fn crewelmarsh_symmetric_eigen_abi1(n: usize, limit: usize, matrix: *const f64, matrix_len: usize, work: *mut f64, work_len: usize,
+    fn crewelmarsh_symmetric_eigen_abi2(n: usize, limit: usize, matrix: *const f64, matrix_len: usize, work: *mut f64, work_len: usize,
         result: *mut f64, result_len: usize);
-    fn crewelmarsh_svd_abi1(m: usize, n: usize, want_u: usize, want_vt: usize, limit: usize, matrix: *const f64, matrix_len: usize,
+    fn crewelmarsh_svd_abi2(m: usize, n: usize, want_u: usize, want_vt: usize, limit: usize, matrix: *const f64, matrix_len: usize,
         work: *mut f64, work_len: usize, result: *mut f64, result_len: usize);
-    fn crewelmarsh_solve_abi1(m: usize, n: usize, has_u: usize, has_vt: usize, tolerance: f64, decomposition: *const f64,
+    fn crewelmarsh_solve_abi2(m: usize, n: usize, has_u: usize, has_vt: usize, tolerance: f64, decomposition: *const f64,
         decomposition_len: usize, right_side: *const f64, right_side_len: usize, answer: *mut f64, answer_len: usize);
-    fn crewelmarsh_pseudo_inverse_abi1(m: usize, n: usize, has_u: usize, has_vt: usize, tolerance: f64, decomposition: *const f64,
+    fn crewelmarsh_pseudo_inverse_abi2(m: usize, n: usize, has_u: usize, has_vt: usize, tolerance: f64, decomposition: *const f64,
         decomposition_len: usize, answer: *mut f64, answer_len: usize);
-    fn crewelmarsh_qr_q_abi1(m: usize, k: usize, matrix: *const f64, matrix_len: usize, answer: *mut f64, answer_len: usize);
+    fn crewelmarsh_qr_q_abi2(m: usize, k: usize, matrix: *const f64, matrix_len: usize, answer: *mut f64, answer_len: usize);
 }
 
 unsafe extern "C" {
@@ -57,27 +58,27 @@ unsafe extern "C" {
 
 fn eigen(n: usize, matrix: &[f64], work: &mut [f64], result: &mut [f64]) -> Answer {
     let (a, w, r) = (matrix.len(), work.len(), result.len());
-    unsafe { crewelmarsh_symmetric_eigen_abi1(n, 60, matrix.as_ptr(), a, work.as_mut_ptr(), w, result.as_mut_ptr(), r) }
+    unsafe { crewelmarsh_symmetric_eigen_abi2(n, 60, matrix.as_ptr(), a, work.as_mut_ptr(), w, result.as_mut_ptr(), r) }
 }
 
 fn svd(n: usize, matrix: &[f64], work: &mut [f64], result: &mut [f64]) -> Answer {
     let (a, w, r) = (matrix.len(), work.len(), result.len());
-    unsafe { crewelmarsh_svd_abi1(n, n, 1, 1, 60, matrix.as_ptr(), a, work.as_mut_ptr(), w, result.as_mut_ptr(), r) }
+    unsafe { crewelmarsh_svd_abi2(n, n, 1, 1, 60, matrix.as_ptr(), a, work.as_mut_ptr(), w, result.as_mut_ptr(), r) }
 }
 
 fn solve(n: usize, given: &[f64], right: &[f64], answer: &mut [f64]) -> Answer {
     let (g, b, a) = (given.len(), right.len(), answer.len());
-    unsafe { crewelmarsh_solve_abi1(n, n, 1, 1, 0.0, given.as_ptr(), g, right.as_ptr(), b, answer.as_mut_ptr(), a) }
+    unsafe { crewelmarsh_solve_abi2(n, n, 1, 1, 0.0, given.as_ptr(), g, right.as_ptr(), b, answer.as_mut_ptr(), a) }
 }
 
 fn pseudo_inverse(n: usize, given: &[f64], answer: &mut [f64]) -> Answer {
     let (g, a) = (given.len(), answer.len());
-    unsafe { crewelmarsh_pseudo_inverse_abi1(n, n, 1, 1, 0.0, given.as_ptr(), g, answer.as_mut_ptr(), a) }
+    unsafe { crewelmarsh_pseudo_inverse_abi2(n, n, 1, 1, 0.0, given.as_ptr(), g, answer.as_mut_ptr(), a) }
 }
 
 fn qr_q(n: usize, matrix: &[f64], answer: &mut [f64]) -> Answer {
     let (m, a) = (matrix.len(), answer.len());
-    unsafe { crewelmarsh_qr_q_abi1(n, n, matrix.as_ptr(), m, answer.as_mut_ptr(), a) }
+    unsafe { crewelmarsh_qr_q_abi2(n, n, matrix.as_ptr(), m, answer.as_mut_ptr(), a) }
 }
 
 // ---------------------------------------------------------------- inputs
@@ -273,7 +274,7 @@ fn main() {
             let a = input(kind, n, &mut rng);
             let (mut work, mut result) = (vec![0.0; 2 * n * n + n], vec![0.0; n + 2 * n * n]);
             let done = svd(n, &a, &mut work, &mut result);
-            assert!(done.answer == 0, "answer {} place {} count {}", done.answer, done.place, done.count);
+            assert!(done.answer == 0, "answer {} place {} index {} count {}", done.answer, done.place, done.index, done.count);
             let (mut b, mut s, mut space) = (vec![0.0; n * n], vec![0.0; n], vec![0.0; 64 * n + 64]);
             let (mut u, mut vt) = (vec![0.0; n * n], vec![0.0; n * n]);
             let (mut c, mut z, mut v, mut room) = (vec![0.0; n * n], vec![0.0; n], vec![0.0; n * n], vec![0.0; 2 * n + 6]);

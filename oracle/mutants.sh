@@ -61,11 +61,31 @@ every matrix refused	s/let mut v = matrix.to_vec();/if n > 3 { return told(8, 0,
 limit tested before convergence	s/if e\[l\].abs() <= eps \* tst1 {/if passes < limit \&\& e[l].abs() <= eps * tst1 {/
 limit tested before settled	s/if !changed {/if !changed \&\& count < limit {/
 limit counted over all l	s/if passes == limit {/if count >= limit {/
-mark 1 left out in eigen	s/if !(finite(d) && finite(e)) {/if false {/
-mark 1 looks at d alone	s/if !(finite(d) && finite(e)) {/if !finite(d) {/
-mark 2 left out in eigen	s/if !(finite(d) && finite(v)) {/if false {/
-mark 0 left out	s/if !(finite(&d) && finite(&e) && finite(&v)) {/if false {/
-mark 2 left out in svd	s/if !(finite(s) && finite(u) && finite(v)) {/if false {/
+mark 1 left out in eigen	s/mark(1, count, &\[d, e\])/None::<Answer>/
+mark 1 looks at d alone	s/&\[d, e\]/\&[d]/
+mark 2 left out in eigen	s/mark(2, count, &\[d, v\])/None::<Answer>/
+mark 0 left out	s/mark(0, 0, &\[&d, &e, &v\])/None::<Answer>/
+mark 1 left out in svd	s/mark(1, count, &\[u, v\])/None::<Answer>/
+mark 2 left out in svd	s/mark(2, count, &\[s, u, v\])/None::<Answer>/
+8 given for a NaN	s/if x.is_nan() { 10 } else { 8 }/8/
+10 given for an infinity	s/if x.is_nan() { 10 } else { 8 }/10/
+8 given for a NaN in qr_q	s/answer: class(norm)/answer: 8/
+class of the last bad number	s/class(numbers\[index\])/class(numbers[numbers.iter().rposition(|x| !x.is_finite())?])/
+index of the last bad number	s/place, index, count })/place, index: numbers.iter().rposition(|x| !x.is_finite())?, count })/
+index from its own array's start	s/place, index, count })/place, index: arrays.iter().find_map(|a| first_bad(a))?, count })/
+index always 0	s/place, index, count })/place, index: 0, count })/
+index column by column in svd	s/mark(1, count, &\[u, v\])/mark(1, count, \&[\&(0..rows * n).map(|x| u[x % rows * n + x \/ rows]).collect::<Vec<f64>>(), v])/
+index column by column in pseudo_inverse	/fn pseudo_inverse/,/^}/s/    marked(answer)/    let a = marked(answer); Answer { index: a.index % m.max(1) * n + a.index \/ m.max(1), ..a }/
+e before d at mark 0	s/&\[&d, &e, &v\]/\&[\&e, \&d, \&v]/
+e before d at mark 1	s/&\[d, e\]/\&[e, d]/
+e one further at mark 1	s/&\[d, e\]/\&[d, \&[0.0], e]/
+v before d at mark 2	s/&\[d, v\]/\&[v, d]/
+factors before values at mark 2	s/&\[s, u, v\]/\&[u, v, s]/
+index 0 in qr_q	s/place: j, index: j/place: j, index: 0/
+place 0 in qr_q	s/place: j, index: j/place: 0, index: j/
+index not 0 on 7	s/return told(7, i \* n + j, 0);/return Answer { index: i * n + j, ..told(7, i * n + j, 0) };/
+index not 0 on 9 in eigen	s/return told(9, l, count);/return Answer { index: l, ..told(9, l, count) };/
+index not 0 on 9 in svd	s/return told(9, count, count);/return Answer { index: count, ..told(9, count, count) };/
 tst1 taken anew	s/if tst1 < here {/if true {/
 zeta of -0 takes sign -1	s/let sign = if zeta >= 0.0/let sign = if zeta > 0.0 || (zeta == 0.0 \&\& zeta.is_sign_positive())/
 gamma equal to the bound turns	s/gamma.abs() <= f64::EPSILON/gamma.abs() < f64::EPSILON/

@@ -1,5 +1,5 @@
 /* Reads cases with their outcomes (README.md has the format) from standard input, calls the C entries with them, and
-   compares the three numbers and every array afterwards, bit for bit. Writes how many agree, by function; comes back
+   compares the four numbers and every array afterwards, bit for bit. Writes how many agree, by function; comes back
    with 1 where any differs. It declares what it calls, so that it builds with no system header. */
 
 typedef unsigned long word; /* 64 bits, as size_t, on every x86-64 Linux */
@@ -9,23 +9,23 @@ int printf(const char *, ...);
 void *memcpy(void *, const void *, word);
 
 struct answer {
-    word answer, place, count;
+    word answer, place, index, count;
 };
 
-struct answer crewelmarsh_symmetric_eigen_abi1(word n, word limit, const double *, word, double *, word, double *, word);
-struct answer crewelmarsh_svd_abi1(word m, word n, word want_u, word want_vt, word limit, const double *, word, double *, word,
+struct answer crewelmarsh_symmetric_eigen_abi2(word n, word limit, const double *, word, double *, word, double *, word);
+struct answer crewelmarsh_svd_abi2(word m, word n, word want_u, word want_vt, word limit, const double *, word, double *, word,
                               double *, word);
-struct answer crewelmarsh_solve_abi1(word m, word n, word has_u, word has_vt, double tolerance, const double *, word,
+struct answer crewelmarsh_solve_abi2(word m, word n, word has_u, word has_vt, double tolerance, const double *, word,
                                 const double *, word, double *, word);
-struct answer crewelmarsh_pseudo_inverse_abi1(word m, word n, word has_u, word has_vt, double tolerance, const double *, word,
+struct answer crewelmarsh_pseudo_inverse_abi2(word m, word n, word has_u, word has_vt, double tolerance, const double *, word,
                                          double *, word);
-struct answer crewelmarsh_qr_q_abi1(word m, word k, const double *, word, double *, word);
+struct answer crewelmarsh_qr_q_abi2(word m, word k, const double *, word, double *, word);
 
 struct extent {
     word start, length;
 };
 
-struct extent crewelmarsh_vt_row_extent_abi1(word m, word n, word has_u, word has_vt, word result_len, word j);
+struct extent crewelmarsh_vt_row_extent_abi2(word m, word n, word has_u, word has_vt, word result_len, word j);
 
 enum { EIGEN = 1, SVD, SOLVE, PSEUDO_INVERSE, QR_Q, VT_ROW };
 
@@ -151,8 +151,8 @@ int main(void) {
         lay(&a, lens[0]), lay(&b, lens[1]), lay(&work, lens[2]), lay(&result, lens[3]);
         word old = next(), kind = next(), seed = next();
         double scale = number(next());
-        struct answer wanted, got = {0, 0, 0};
-        wanted.answer = next(), wanted.place = next(), wanted.count = next();
+        struct answer wanted, got = {0, 0, 0, 0};
+        wanted.answer = next(), wanted.place = next(), wanted.index = next(), wanted.count = next();
         word wanted_hash = next(), words = next();
         for (word i = 0; i < a.len + b.len; i++) {
             seed = step(seed);
@@ -166,14 +166,14 @@ int main(void) {
         double *pa = slice(&a, turn), *pb = slice(&b, turn), *pw = slice(&work, turn), *pr = slice(&result, turn);
         double tolerance = number(p[4]);
         switch (f) {
-        case EIGEN: got = crewelmarsh_symmetric_eigen_abi1(p[0], p[1], pa, a.len, pw, work.len, pr, result.len); break;
-        case SVD: got = crewelmarsh_svd_abi1(p[0], p[1], p[2], p[3], p[4], pa, a.len, pw, work.len, pr, result.len); break;
-        case SOLVE: got = crewelmarsh_solve_abi1(p[0], p[1], p[2], p[3], tolerance, pa, a.len, pb, b.len, pr, result.len); break;
-        case PSEUDO_INVERSE: got = crewelmarsh_pseudo_inverse_abi1(p[0], p[1], p[2], p[3], tolerance, pa, a.len, pr, result.len); break;
-        case QR_Q: got = crewelmarsh_qr_q_abi1(p[0], p[1], pa, a.len, pr, result.len); break;
-        default: got.answer = row(crewelmarsh_vt_row_extent_abi1(p[0], p[1], p[2], p[3], a.len, p[4]));
+        case EIGEN: got = crewelmarsh_symmetric_eigen_abi2(p[0], p[1], pa, a.len, pw, work.len, pr, result.len); break;
+        case SVD: got = crewelmarsh_svd_abi2(p[0], p[1], p[2], p[3], p[4], pa, a.len, pw, work.len, pr, result.len); break;
+        case SOLVE: got = crewelmarsh_solve_abi2(p[0], p[1], p[2], p[3], tolerance, pa, a.len, pb, b.len, pr, result.len); break;
+        case PSEUDO_INVERSE: got = crewelmarsh_pseudo_inverse_abi2(p[0], p[1], p[2], p[3], tolerance, pa, a.len, pr, result.len); break;
+        case QR_Q: got = crewelmarsh_qr_q_abi2(p[0], p[1], pa, a.len, pr, result.len); break;
+        default: got.answer = row(crewelmarsh_vt_row_extent_abi2(p[0], p[1], p[2], p[3], a.len, p[4]));
         }
-        int good = got.answer == wanted.answer && got.place == wanted.place && got.count == wanted.count;
+        int good = got.answer == wanted.answer && got.place == wanted.place && got.index == wanted.index && got.count == wanted.count;
         good &= untouched(&a) & untouched(&b);
         good &= guarded(&a) & guarded(&b) & guarded(&work) & guarded(&result);
         good &= hash(hash(0x9e3779b97f4a7c15ul, &work), &result) == wanted_hash;
@@ -182,9 +182,10 @@ int main(void) {
         total[f]++;
         agree[f] += (word)good;
         if (!good && told++ < 10)
-            printf("case %lu, %s(%lx, %lx, %lx, %lx, %lx), lengths %lu %lu %lu %lu: %lu %lu %lu, wanted %lu %lu %lu\n", turn,
+            printf("case %lu, %s(%lx, %lx, %lx, %lx, %lx), lengths %lu %lu %lu %lu: %lu %lu %lu %lu, wanted %lu %lu %lu %lu\n",
+                   turn,
                    names[f], p[0], p[1], p[2], p[3], p[4], a.len, b.len, work.len, result.len, got.answer, got.place,
-                   got.count, wanted.answer, wanted.place, wanted.count);
+                   got.index, got.count, wanted.answer, wanted.place, wanted.index, wanted.count);
     }
     word bad = 0, calls = 0;
     for (int f = EIGEN; f <= VT_ROW; f++) {

@@ -19,6 +19,8 @@ int main(void)
     test_pseudo_inverse();
     group("qr_q");
     test_qr_q();
+    group("marks");
+    test_marks();
     group("sizes");
     test_sizes();
     group("numbers");

@@ -52,12 +52,15 @@ struct call qr_q_call(size_t m, size_t k, const double *matrix);
 
 /*
  * Runs a call on arrays between guard words, twice, with other old contents the second time; an array
- * of length 0 is NULL the first time. Checks the three numbers, the guards, that what is only read is
- * unchanged byte for byte, and of the other arrays what the answer promises: 1 to 6 unchanged, 7 to 9
+ * of length 0 is NULL the first time. Checks the four numbers (the index is 0), the guards, that what is only read is
+ * unchanged byte for byte, and of the other arrays what the answer promises: 1 to 6 unchanged, 7 to 10
  * +0.0 throughout, 0 work +0.0 and every number of the result finite, the same both times, and with the
  * bits of `out` where that is not NULL.
  */
 void expect(const char *what, struct call c, size_t answer, size_t place, size_t count, const double *out);
+
+/* The same for an 8 or a 10, with its index. */
+void expect_at(const char *what, struct call c, size_t answer, size_t place, size_t index, size_t count);
 
 /* The same for an answer 0 whose result, at most 64 long, is given by its bits. */
 void expect_bits(const char *what, struct call c, size_t count, const uint64_t *bits);
@@ -83,6 +86,7 @@ void test_row(void);
 void test_solve(void);
 void test_pseudo_inverse(void);
 void test_qr_q(void);
+void test_marks(void);
 void test_sizes(void);
 void test_numbers(void);
 

@@ -131,7 +131,7 @@ static int out_is(const double *expected, size_t length)
 static struct crewelmarsh_answer run(const struct call *c, const double *in, const double *right,
                                      double *work, double *out)
 {
-    struct crewelmarsh_answer none = {99, 99, 99};
+    struct crewelmarsh_answer none = {99, 99, 99, 99};
     switch (c->entry) {
     case EIGEN:
         return crewelmarsh_symmetric_eigen(c->n, c->limit, in, c->in_len, work, c->work_len,
@@ -178,13 +178,13 @@ static struct crewelmarsh_answer run_between_guards(const char *what, const stru
 }
 
 static void check_numbers(const char *what, struct crewelmarsh_answer a,
-                          size_t answer, size_t place, size_t count)
+                          size_t answer, size_t place, size_t index, size_t count)
 {
-    int good = a.answer == answer && a.place == place && a.count == count;
-    check_aspect(good, what, ": answer, place, count");
+    int good = a.answer == answer && a.place == place && a.index == index && a.count == count;
+    check_aspect(good, what, ": answer, place, index, count");
     if (!good)
-        printf("  %zu %zu %zu came, %zu %zu %zu expected\n",
-               a.answer, a.place, a.count, answer, place, count);
+        printf("  %zu %zu %zu %zu came, %zu %zu %zu %zu expected\n",
+               a.answer, a.place, a.index, a.count, answer, place, index, count);
 }
 
 /* The old contents are negative numbers the first time and NaN the second. */
@@ -205,10 +205,16 @@ static struct crewelmarsh_answer run_again(const char *what, const struct call *
 
 void expect(const char *what, struct call c, size_t answer, size_t place, size_t count, const double *out)
 {
-    check_numbers(what, run_first(what, &c), answer, place, count);
-    check_numbers(what, run_again(what, &c), answer, place, count);
+    check_numbers(what, run_first(what, &c), answer, place, 0, count);
+    check_numbers(what, run_again(what, &c), answer, place, 0, count);
     if (out)
         check_aspect(out_is(out, c.out_len), what, ": the bits of the result");
+}
+
+void expect_at(const char *what, struct call c, size_t answer, size_t place, size_t index, size_t count)
+{
+    check_numbers(what, run_first(what, &c), answer, place, index, count);
+    check_numbers(what, run_again(what, &c), answer, place, index, count);
 }
 
 void expect_bits(const char *what, struct call c, size_t count, const uint64_t *bits)
@@ -223,8 +229,8 @@ void expect_bits(const char *what, struct call c, size_t count, const uint64_t *
 size_t expect_done(const char *what, struct call c, double *out)
 {
     struct crewelmarsh_answer a = run_first(what, &c);
-    check_numbers(what, a, 0, 0, a.count);
-    check_numbers(what, run_again(what, &c), 0, 0, a.count);
+    check_numbers(what, a, 0, 0, 0, a.count);
+    check_numbers(what, run_again(what, &c), 0, 0, 0, a.count);
     memcpy(out, first_out, c.out_len * sizeof(double));
     return a.count;
 }

@@ -93,14 +93,14 @@ static void marks(void)
     double second[4] = {0};
     double third[4] = {0};
     first[6] = first[7] = power_of_two(1023);
-    expect("mark 0", eigen_call(3, first), 8, 0, 0, NULL);
+    expect_at("mark 0", eigen_call(3, first), 10, 0, 0, 0);
     second[2] = power_of_two(-512);
     second[3] = power_of_two(512);
-    expect("mark 1", eigen_call(2, second), 8, 1, 1, NULL);
+    expect_at("mark 1", eigen_call(2, second), 10, 1, 0, 1);
     third[0] = -1.75 * power_of_two(1022);
     third[2] = 0.75 * power_of_two(1022);
     third[3] = -3.75 * power_of_two(1022);
-    expect("mark 2", eigen_call(2, third), 8, 2, 1, NULL);
+    expect_at("mark 2", eigen_call(2, third), 8, 2, 1, 1);
 }
 
 /* A pass that leaves every d finite and an e that is not: without the look at e the answer would be 0. */
@@ -111,7 +111,7 @@ static void mark_by_e(void)
     matrix[10] = power_of_two(1021);
     matrix[12] = 1;
     matrix[14] = power_of_two(40);
-    expect("mark 1 by e alone", eigen_call(4, matrix), 8, 1, 1, NULL);
+    expect_at("mark 1 by e alone", eigen_call(4, matrix), 8, 1, 5, 1);
 }
 
 /* The bound goes by the largest |d| + |e| so far: the 1 of l = 0 holds at l = 1 too, where d is 0 and e 2^-52. */

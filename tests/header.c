@@ -37,11 +37,11 @@ SAME(solve_answer, CREWELMARSH_SOLVE_ANSWER_LEN(2), 2);
 SAME(inverse_answer, CREWELMARSH_PSEUDO_INVERSE_ANSWER_LEN(3, 2), 6);
 SAME(qr_answer, CREWELMARSH_QR_Q_ANSWER_LEN(3, 2), 6);
 
-#if CREWELMARSH_VERSION_MAJOR < 1
+#if CREWELMARSH_VERSION_MAJOR < 2
 #error "the version is no number"
 #endif
 
-/* "1.0.0", of one digit each until one has more. */
+/* "2.0.0", of one digit each until one has more. */
 static int version_right(void)
 {
     const char *v = CREWELMARSH_VERSION;
@@ -57,19 +57,19 @@ static int constants_right(void)
     return CREWELMARSH_DONE == 0 && CREWELMARSH_DIMENSION == 1 && CREWELMARSH_LIMIT == 2 &&
            CREWELMARSH_NO_U == 3 && CREWELMARSH_NO_VT == 4 && CREWELMARSH_RIGHT_SIDE == 5 &&
            CREWELMARSH_LENGTH == 6 && CREWELMARSH_NOT_FINITE == 7 && CREWELMARSH_OVERFLOW == 8 &&
-           CREWELMARSH_LIMIT_USED == 9 && CREWELMARSH_MAX_DIMENSION == 256 &&
+           CREWELMARSH_LIMIT_USED == 9 && CREWELMARSH_INVALID == 10 && CREWELMARSH_MAX_DIMENSION == 256 &&
            CREWELMARSH_MIN_LIMIT == 1 && CREWELMARSH_MAX_LIMIT == 60;
 }
 
-/* The ten texts and the one for other numbers differ from each other. */
+/* The eleven texts and the one for other numbers differ from each other. */
 static int texts_differ(void)
 {
     size_t a, b;
-    for (a = 0; a <= 10; a++)
+    for (a = 0; a <= 11; a++)
         for (b = 0; b < a; b++)
             if (strcmp(crewelmarsh_text(a), crewelmarsh_text(b)) == 0)
                 return 0;
-    return strcmp(crewelmarsh_text(10), crewelmarsh_text((size_t)-1)) == 0;
+    return strcmp(crewelmarsh_text(11), crewelmarsh_text((size_t)-1)) == 0;
 }
 
 static int square_lengths_right(size_t n)
@@ -131,7 +131,16 @@ static int empty_rows_right(void)
 
 static int is_answer(struct crewelmarsh_answer a, size_t answer, size_t place, size_t count)
 {
-    return a.answer == answer && a.place == place && a.count == count;
+    return a.answer == answer && a.place == place && a.index == 0 && a.count == count;
+}
+
+/* In this order, with nothing between. */
+static int in_order(void)
+{
+    struct crewelmarsh_answer a;
+    size_t numbers[4] = {1, 2, 3, 4};
+    memcpy(&a, numbers, sizeof a);
+    return a.answer == 1 && a.place == 2 && a.index == 3 && a.count == 4;
 }
 
 /* An svd runs one sweep over no pair; the others do nothing. */
@@ -154,7 +163,8 @@ void TEST_HEADER(void (*check)(int good, const char *what))
     check(version_right(), "version");
     check(constants_right(), "constants");
     check(texts_differ(), "texts");
-    check(sizeof(struct crewelmarsh_answer) == 3 * sizeof(size_t), "three numbers");
+    check(sizeof(struct crewelmarsh_answer) == 4 * sizeof(size_t), "four numbers");
+    check(in_order(), "answer, place, index, count");
     for (i = 0; i < DIMENSIONS; i++) {
         check(square_lengths_right(dimensions[i]), "lengths by n");
         for (j = 0; j < DIMENSIONS; j++)

@@ -67,14 +67,14 @@ static void not_finite(void)
         expect_not_finite("matrix", qr_q_call(3, 2, plain), i, i);
 }
 
-/* The place is the column. */
+/* Place and index are the column. */
 static void columns(void)
 {
     double matrix[9] = {1, 0, 0, 0, 1, 0, 0, 0, 1};
     size_t j;
     for (j = 0; j < 3; j++) {
         matrix[4 * j] = power_of_two(512);
-        expect("a norm that overflows", qr_q_call(3, 3, matrix), 8, j, 0, NULL);
+        expect_at("a norm that overflows", qr_q_call(3, 3, matrix), 8, j, j, 0);
         matrix[4 * j] = 1;
     }
 }

@@ -139,7 +139,7 @@ static void qr_256(void)
         large_out[i] = i % 257 == 0;
     expect("qr_q of 256", qr_q_call(256, 256, diagonal(256, 256)), 0, 0, 0, large_out);
     large_in[256 * 256 - 1] = power_of_two(512);
-    expect("qr_q of 256, last column", qr_q_call(256, 256, large_in), 8, 255, 0, NULL);
+    expect_at("qr_q of 256, last column", qr_q_call(256, 256, large_in), 8, 255, 255, 0);
 }
 
 void test_sizes(void)

@@ -137,10 +137,10 @@ static void marks(void)
     double matrix[4];
     matrix[0] = matrix[1] = matrix[2] = power_of_two(600);
     matrix[3] = -matrix[0];
-    expect("mark 1", svd_call(2, 2, 1, 1, matrix), 8, 1, 1, NULL);
-    expect("mark 1, values alone", svd_call(2, 2, 0, 0, matrix), 8, 1, 1, NULL);
-    expect("mark 2", svd_call(1, 1, 1, 1, matrix), 8, 2, 1, NULL);
-    expect("mark 2, wide", svd_call(1, 2, 0, 1, matrix), 8, 2, 1, NULL);
+    expect_at("mark 1", svd_call(2, 2, 1, 1, matrix), 10, 1, 0, 1);
+    expect_at("mark 1, values alone", svd_call(2, 2, 0, 0, matrix), 10, 1, 0, 1);
+    expect_at("mark 2", svd_call(1, 1, 1, 1, matrix), 8, 2, 0, 1);
+    expect_at("mark 2, wide", svd_call(1, 2, 0, 1, matrix), 8, 2, 0, 1);
 }
 
 static void limits(void)

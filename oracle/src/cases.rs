@@ -123,7 +123,7 @@ impl Case {
             _ => {
                 let (start, len) = patched::vt_row(p[0], p[1], p[2], p[3], p[4], a);
                 result = a[start..start + len].to_vec();
-                Answer { answer: len, place: 0, count: 0 }
+                Answer { answer: len, place: 0, index: 0, count: 0 }
             }
         };
         Outcome { answer, work, result }
@@ -141,7 +141,7 @@ impl Case {
         words.extend(self.parameters);
         words.extend([self.a.len(), self.b.len(), self.work_len, self.result_len].map(|l| l as u64));
         words.extend([self.old, kind, seed, scale.to_bits()]);
-        words.extend([answer.answer, answer.place, answer.count].map(|l| l as u64));
+        words.extend([answer.answer, answer.place, answer.index, answer.count].map(|l| l as u64));
         words.push(hash(hash(HASH_START, &work), &result));
         words.push(shown as u64);
         if kind == 0 {
@@ -213,7 +213,7 @@ fn edges() -> [f64; 24] {
 pub fn numbers(rng: &mut Random, rows: usize, cols: usize) -> Vec<f64> {
     let len = rows * cols;
     let mut a: Vec<f64> = (0..len).map(|_| rng.unit()).collect();
-    match rng.below(21) {
+    match rng.below(22) {
         0..=2 => {}
         3 => a.fill_with(|| rng.below(8) as f64 - 4.0),
         4 => a.fill_with(|| rng.below(3) as f64 - 1.0),
@@ -298,6 +298,16 @@ pub fn numbers(rng: &mut Random, rows: usize, cols: usize) -> Vec<f64> {
                     let x = a[i * cols + j];
                     let part = if i != j { 0.45 * x } else if i + 1 == rows { 0.8 + 0.2 * x.abs() } else { 0.25 + 0.24 * x.abs() };
                     a[i * cols + j] = part * f64::MAX;
+                }
+            }
+        }
+        21 => {
+            // Columns of small whole numbers, and others with the largest numbers among them: sums that overflow, or are NaN.
+            let from = [0.0, 1.0, -1.0, 2.0, two(1023), -two(1023), f64::MAX, -f64::MAX];
+            for j in 0..cols {
+                let some = if rng.one_in(2) { 4 } else { 8 };
+                for i in 0..rows {
+                    a[i * cols + j] = rng.of(&from[..some]);
                 }
             }
         }

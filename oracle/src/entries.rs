@@ -19,7 +19,7 @@ unsafe fn lent_mut<'a>(start: *mut f64, len: usize) -> &'a mut [f64] {
 }
 
 #[unsafe(no_mangle)]
-pub unsafe extern "C" fn crewelmarsh_symmetric_eigen_abi1(
+pub unsafe extern "C" fn crewelmarsh_symmetric_eigen_abi2(
     n: usize,
     limit: usize,
     matrix: *const f64,
@@ -35,7 +35,7 @@ pub unsafe extern "C" fn crewelmarsh_symmetric_eigen_abi1(
 }
 
 #[unsafe(no_mangle)]
-pub unsafe extern "C" fn crewelmarsh_svd_abi1(
+pub unsafe extern "C" fn crewelmarsh_svd_abi2(
     m: usize,
     n: usize,
     want_u: usize,
@@ -61,7 +61,7 @@ pub struct Extent {
 }
 
 #[unsafe(no_mangle)]
-pub extern "C" fn crewelmarsh_vt_row_extent_abi1(
+pub extern "C" fn crewelmarsh_vt_row_extent_abi2(
     m: usize,
     n: usize,
     has_u: usize,
@@ -74,7 +74,7 @@ pub extern "C" fn crewelmarsh_vt_row_extent_abi1(
 }
 
 #[unsafe(no_mangle)]
-pub unsafe extern "C" fn crewelmarsh_solve_abi1(
+pub unsafe extern "C" fn crewelmarsh_solve_abi2(
     m: usize,
     n: usize,
     has_u: usize,
@@ -94,7 +94,7 @@ pub unsafe extern "C" fn crewelmarsh_solve_abi1(
 }
 
 #[unsafe(no_mangle)]
-pub unsafe extern "C" fn crewelmarsh_pseudo_inverse_abi1(
+pub unsafe extern "C" fn crewelmarsh_pseudo_inverse_abi2(
     m: usize,
     n: usize,
     has_u: usize,
@@ -112,7 +112,7 @@ pub unsafe extern "C" fn crewelmarsh_pseudo_inverse_abi1(
 }
 
 #[unsafe(no_mangle)]
-pub unsafe extern "C" fn crewelmarsh_qr_q_abi1(
+pub unsafe extern "C" fn crewelmarsh_qr_q_abi2(
     m: usize,
     k: usize,
     matrix: *const f64,

@@ -1,5 +1,5 @@
 //! Runs the inputs of docs/FINDINGS.md through the patched functions and through document 000 itself, and writes what
-//! comes back: the three numbers, the values, how far the factors are from orthonormal.
+//! comes back: the four numbers, the values, how far the factors are from orthonormal.
 
 use crate::cases::*;
 use crate::plain::platform;
@@ -59,8 +59,8 @@ fn document(case: &Case) -> String {
 /// How often a random matrix of a kind is refused by `svd`, or comes back with a U that is not orthonormal.
 fn survey(what: &str, mut draw: impl FnMut(&mut Random) -> (usize, Vec<f64>)) {
     let mut rng = Random::new(1);
-    let mut answers = [0; 10];
-    let mut eigen = [0; 10];
+    let mut answers = [0; 11];
+    let mut eigen = [0; 11];
     let mut crooked = 0;
     for _ in 0..200 {
         let (n, a) = draw(&mut rng);
@@ -70,7 +70,7 @@ fn survey(what: &str, mut draw: impl FnMut(&mut Random) -> (usize, Vec<f64>)) {
         crooked += (done.answer.answer == 0 && off(n, n, |i, j| done.result[n + i * n + j]) > 1e-8) as usize;
         eigen[Case::new(EIGEN, &[size, 60], a).outcome().answer.answer] += 1;
     }
-    println!("{what}: svd by answer 0 to 9 {answers:?}, answer 0 with U off by more than 1e-8 {crooked}, symmetric_eigen {eigen:?}");
+    println!("{what}: svd by answer 0 to 10 {answers:?}, answer 0 with U off by more than 1e-8 {crooked}, symmetric_eigen {eigen:?}");
 }
 
 fn surveys() {
@@ -128,6 +128,26 @@ fn scaled() {
     }
 }
 
+/// Finding 10 at the other end: how many of the same matrices scaled up are refused, by answer 8 and 10, and at which marks.
+fn scaled_up() {
+    for n in [3, 8, 20] {
+        for k in [510, 512, 514, 518, 600, 1000] {
+            let mut rng = Random::new(1);
+            let (mut eights, mut tens) = ([0; 3], [0; 3]);
+            for _ in 0..200 {
+                let a: Vec<f64> = (0..n * n).map(|_| rng.unit() * two(k)).collect();
+                let told = Case::new(EIGEN, &[n as u64, 60], a).outcome().answer;
+                match told.answer {
+                    8 => eights[told.place] += 1,
+                    10 => tens[told.place] += 1,
+                    _ => {}
+                }
+            }
+            println!("200 random {n} by {n} with entries up to 2^{k}: 8 by place {eights:?}, 10 by place {tens:?}");
+        }
+    }
+}
+
 pub fn print() {
     std::panic::set_hook(Box::new(|_| {}));
     let names = ["", "symmetric_eigen", "svd", "", "", "qr_q"];
@@ -136,9 +156,10 @@ pub fn print() {
         let a = done.answer;
         println!("{} {:?} {:?}", names[case.function as usize], &case.parameters[..2], case.a);
         let cells = if a.answer == 0 { shown(&case, &done.result) } else { String::new() };
-        println!("    patched: {} {} {} {cells}", a.answer, a.place, a.count);
+        println!("    patched: {} {} {} {} {cells}", a.answer, a.place, a.index, a.count);
         println!("    document 000: {}", document(&case));
     }
     surveys();
     scaled();
+    scaled_up();
 }

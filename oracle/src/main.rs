@@ -60,8 +60,8 @@ fn fresh(out: &mut impl Write, seed: u64, cases: usize, largest: u64) -> io::Res
 /// Where the patched functions answer 0, document 000 with 01's hypot gives the same bits. Also says how many answers
 /// of each number there were, and in how many cases the platform's hypot gives other bits.
 fn check(seed: u64, cases: usize, largest: u64) -> bool {
-    let mut answers = [[0usize; 10]; 7];
-    let mut marks = [[0usize; 3]; 7];
+    let mut answers = [[0usize; 11]; 7];
+    let mut marks = [[[0usize; 3]; 2]; 7];
     let mut compared = [0usize; 7];
     let mut wrong = 0;
     let mut other_hypot = 0;
@@ -76,20 +76,21 @@ fn check(seed: u64, cases: usize, largest: u64) -> bool {
         }
         let done = case.outcome();
         answers[case.function as usize][done.answer.answer] += 1;
-        if done.answer.answer == 8 && done.answer.place < 3 {
-            marks[case.function as usize][done.answer.place] += 1;
+        if matches!(done.answer.answer, 8 | 10) && done.answer.place < 3 {
+            marks[case.function as usize][(done.answer.answer == 10) as usize][done.answer.place] += 1;
         }
         let plus_zero = |cells: &[f64]| cells.iter().all(|x| x.to_bits() == 0);
         let (work, result) = case.before();
         let same = |x: &[f64], y: &[f64]| x.len() == y.len() && x.iter().zip(y).all(|(x, y)| x.to_bits() == y.to_bits());
-        let fits = match done.answer.answer {
+        let at = done.answer.index == 0 || matches!(done.answer.answer, 8 | 10);
+        let fits = at && match done.answer.answer {
             0 => plus_zero(&done.work) && done.result.iter().all(|x| x.is_finite()),
             1..=6 => same(&work, &done.work) && same(&result, &done.result),
             _ => plus_zero(&done.work) && plus_zero(&done.result),
         };
         if !fits {
             wrong += 1;
-            println!("arrays after answer {}: {} {:?}", done.answer.answer, NAMES[case.function as usize], case.parameters);
+            println!("arrays or index after answer {}: {} {:?}", done.answer.answer, NAMES[case.function as usize], case.parameters);
         }
         if done.answer.answer != 0 {
             continue;
@@ -113,7 +114,7 @@ fn check(seed: u64, cases: usize, largest: u64) -> bool {
         }
     }
     for f in 1..6 {
-        println!("{}: {} compared with document 000; cases by answer 0 to 9: {:?}, 8 by place 0 to 2: {:?}", NAMES[f], compared[f], answers[f], marks[f]);
+        println!("{}: {} compared with document 000; cases by answer 0 to 10: {:?}, 8 by place 0 to 2: {:?}, 10: {:?}", NAMES[f], compared[f], answers[f], marks[f][0], marks[f][1]);
     }
     println!("{} of the eigen cases up to n = 12 have other bits under the platform's hypot", other_hypot);
     println!("{} cases, {} wrong", all.len(), wrong);

@@ -8,6 +8,7 @@ use crate::hypot::hypot01;
 pub struct Answer {
     pub answer: usize,
     pub place: usize,
+    pub index: usize,
     pub count: usize,
 }
 
@@ -15,11 +16,19 @@ const LARGEST: usize = 256;
 const MOST: usize = 60;
 
 fn told(answer: usize, place: usize, count: usize) -> Answer {
-    Answer { answer, place, count }
+    Answer { answer, place, index: 0, count }
 }
 
-fn finite(numbers: &[f64]) -> bool {
-    numbers.iter().all(|x| x.is_finite())
+/// The answer that a number which is not finite gives.
+fn class(x: f64) -> usize {
+    if x.is_nan() { 10 } else { 8 }
+}
+
+/// A mark: the refusal of the first number that is not finite in the arrays, one behind the other.
+fn mark(place: usize, count: usize, arrays: &[&[f64]]) -> Option<Answer> {
+    let numbers = arrays.concat();
+    let index = first_bad(&numbers)?;
+    Some(Answer { answer: class(numbers[index]), place, index, count })
 }
 
 fn first_bad(numbers: &[f64]) -> Option<usize> {
@@ -59,8 +68,8 @@ pub fn symmetric_eigen(n: usize, limit: usize, matrix: &[f64], work: &mut [f64],
     let mut d = vec![0.0_f64; n];
     let mut e = vec![0.0_f64; n];
     tred2(n, &mut v, &mut d, &mut e);
-    if !(finite(&d) && finite(&e) && finite(&v)) {
-        return told(8, 0, 0);
+    if let Some(refusal) = mark(0, 0, &[&d, &e, &v]) {
+        return refusal;
     }
     let answer = tql2(n, limit, &mut v, &mut d, &mut e);
     if answer.answer == 0 {
@@ -188,8 +197,8 @@ fn tql2(n: usize, limit: usize, v: &mut [f64], d: &mut [f64], e: &mut [f64]) -> 
             pass(n, l, m, &mut f, v, d, e);
             passes += 1;
             count += 1;
-            if !(finite(d) && finite(e)) {
-                return told(8, 1, count);
+            if let Some(refusal) = mark(1, count, &[d, e]) {
+                return refusal;
             }
             if e[l].abs() <= eps * tst1 {
                 break;
@@ -201,8 +210,8 @@ fn tql2(n: usize, limit: usize, v: &mut [f64], d: &mut [f64], e: &mut [f64]) -> 
         d[l] += f;
         e[l] = 0.0;
     }
-    if !(finite(d) && finite(v)) {
-        return told(8, 2, count);
+    if let Some(refusal) = mark(2, count, &[d, v]) {
+        return refusal;
     }
 
     for i in 0..n - 1 {
@@ -362,8 +371,8 @@ fn jacobi_svd_tall(rows: usize, n: usize, limit: usize, u: &mut [f64], v: &mut [
     loop {
         let changed = sweep(rows, n, u, v);
         count += 1;
-        if !(finite(u) && finite(v)) {
-            return told(8, 1, count);
+        if let Some(refusal) = mark(1, count, &[u, v]) {
+            return refusal;
         }
         if !changed {
             break;
@@ -385,8 +394,8 @@ fn jacobi_svd_tall(rows: usize, n: usize, limit: usize, u: &mut [f64], v: &mut [
             }
         }
     }
-    if !(finite(s) && finite(u) && finite(v)) {
-        return told(8, 2, count);
+    if let Some(refusal) = mark(2, count, &[s, u, v]) {
+        return refusal;
     }
     told(0, 0, count)
 }
@@ -553,11 +562,13 @@ pub fn pseudo_inverse(
 
 /// Mark 2 of `solve` and `pseudo_inverse`.
 fn marked(answer: &mut [f64]) -> Answer {
-    if finite(answer) {
-        return told(0, 0, 0);
+    match mark(2, 0, &[answer]) {
+        None => told(0, 0, 0),
+        Some(refusal) => {
+            answer.fill(0.0);
+            refusal
+        }
     }
-    answer.fill(0.0);
-    told(8, 2, 0)
 }
 
 // ---------------------------------------------------------------- qr_q
@@ -592,7 +603,7 @@ pub fn qr_q(m: usize, k: usize, matrix: &[f64], answer: &mut [f64]) -> Answer {
         }
         let norm = norm_sq.sqrt();
         if !norm.is_finite() {
-            return told(8, j, 0);
+            return Answer { answer: class(norm), place: j, index: j, count: 0 };
         }
         for row in 0..m {
             if norm > f64::EPSILON {

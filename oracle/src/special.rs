@@ -1,5 +1,5 @@
 //! The cases of the committed list that are chosen by hand: 01's worked numbers, every refusal and pairs of them in
-//! 01's order, the findings' inputs, large sizes.
+//! 01's order, both classes of a number that goes bad, the findings' inputs, large sizes.
 
 use crate::cases::*;
 
@@ -116,6 +116,8 @@ pub fn findings() -> Vec<Case> {
         eigen(3, 60, &[0.0, 0.0, small, 0.0, small, small, small, small, 0.0]),
         // Where document 000 panics, and where it does not end.
         eigen(2, 60, &[0.0, two(-512), two(-512), two(512)]),
+        eigen(2, 60, &[0.0, tiny, tiny, 1.0]),
+        eigen(2, 60, &[0.0, two(-1022), two(-1022), 1.0]),
         eigen(2, 60, &[0.0, 3.0 * two(1022), 3.0 * two(1022), 0.0]),
         eigen(2, 60, &[two(1023), 1.0, 1.0, 0.0]),
         // Norms that are not finite.
@@ -130,6 +132,73 @@ pub fn findings() -> Vec<Case> {
         qr_q(2, 3, &[1.0, 2.0, 3.0, 1.0, 3.0, 1.0]),
         qr_q(2, 3, &[1.0, 2.0, 3.0 * two(80), 1.0, 3.0, two(80)]),
         qr_q(2, 3, &[1.0, 2.0, 3.0 * two(120), 1.0, 3.0, two(120)]),
+    ]
+}
+
+/// Small inputs for each mark and class that can be met there (docs/FINDINGS.md, 11), by where the number stands. Where more numbers
+/// than one are bad, some have the other class behind the first.
+pub fn marks() -> Vec<Case> {
+    let (max, big, half, quarter) = (f64::MAX, two(1023), two(1022), two(1021));
+    let (small, large) = (two(-512), two(600));
+    vec![
+        // symmetric_eigen, mark 0: 8 in d, first or not, and 10, at the last with an infinity behind it.
+        eigen(3, 60, &[big, 0.0, 0.0, 0.0, -big, 0.0, -1.0, 0.0, -1.0]),
+        eigen(4, 60, &[1.0, 0.0, 0.0, 0.0, 1.0, -big, 0.0, 0.0, big, 0.0, big, 0.0, 1.0, big, 0.0, 0.0]),
+        eigen(2, 60, &[big, 0.0, 1.0, 0.0]),
+        eigen(3, 60, &[big, 0.0, 0.0, 1.0, -big, 0.0, 1.0, 0.0, 0.0]),
+        // Mark 1: 8 in d, first or not, with a NaN behind it, in e.
+        eigen(3, 60, &[-1.0, 0.0, 0.0, -half, -1.0, 0.0, -big, 0.0, 0.0]),
+        eigen(4, 60, &[2.0, 0.0, 0.0, 0.0, 1.0, 0.0, 0.0, 0.0, 0.0, big, 1.0, 0.0, 0.0, 1.0, 1.0, -1.0]),
+        eigen(2, 60, &[quarter, 0.0, -half, max]),
+        eigen(3, 60, &[0.0, 0.0, 0.0, max, 0.0, 0.0, 0.0, 0.0, -big]),
+        eigen(3, 60, &[0.0, 0.0, 0.0, half, -1.0, 0.0, 0.0, -max, half]),
+        // Mark 1: 10 in d, first or not, with an infinity behind it, in e.
+        eigen(2, 60, &[half, 0.0, -big, -max]),
+        eigen(2, 60, &[0.0, 0.0, small, -large]),
+        eigen(3, 60, &[0.0, 0.0, 0.0, half, 0.0, 0.0, -half, 0.0, 0.0]),
+        eigen(3, 60, &[0.0, 0.0, 0.0, 0.0, -1.0, 0.0, 1.0, -max, -1.0]),
+        eigen(3, 60, &[half, 0.0, 0.0, 0.0, -big, 0.0, -big, 1.0, -max]),
+        eigen(3, 60, &[0.0, 0.0, 0.0, 1.0, 0.0, 0.0, -big, 0.0, big]),
+        eigen(4, 60, &[0.0, 0.0, 0.0, 0.0, -big, 0.0, 0.0, 0.0, 1.0, -1.0, -1.0, 0.0, 0.0, big, 0.0, -1.0]),
+        eigen(2, 60, &[0.0, 0.0, max, 0.0]),
+        // Mark 2: 8 in d.
+        eigen(2, 60, &[-half, 0.0, half, -max]),
+        // svd, mark 1: 10 in the factor with L rows, tall, square and wide.
+        svd(2, 2, 60, &[big, 2.0, big, -big]),
+        svd(3, 3, 60, &[1.0, 0.0, 0.0, 0.0, large, large, 0.0, large, -large]),
+        svd(4, 3, 60, &[0.0, large, large, 1.0, 0.0, 0.0, 0.0, large, -large, 0.0, 0.0, 0.0]),
+        svd(2, 3, 60, &[-big, -half, 0.0, -big, half, 0.0]),
+        svd(3, 4, 60, &[1.0, 1.0, 0.0, 1.0, 0.0, 1.0, -1.0, big, -1.0, -big, big, big]),
+        // Mark 2: 8 among the values.
+        svd(1, 2, 60, &[0.0, -big]),
+        svd(2, 2, 60, &[0.0, 0.0, 0.0, -big]),
+        svd(2, 3, 60, &[0.0, 0.0, 0.0, 0.0, -big, 0.0]),
+        svd(3, 3, 60, &[1.0, 0.0, 0.0, 0.0, 1.0, 0.0, 0.0, 0.0, large]),
+        // solve: 8 and 10, first or not, with the other class behind.
+        solve(1, 2, 0.0, &[1.0, 2.0, 0.0, -big], &[-1.0]),
+        solve(1, 3, 0.0, &[1.0, -1.0, 0.0, 1.0, 2.0], &[-big]),
+        solve(1, 2, 0.0, &[1.0, -big, 1.0, 0.0], &[-big]),
+        solve(1, 1, 0.0, &[1.0, big, 0.0], &[-big]),
+        solve(1, 2, 0.0, &[1.0, big, 0.0, -1.0], &[-big]),
+        solve(2, 2, 0.0, &[1.0, 1.0, max, 0.0, 2.0, max, -1.0, -big, 1.0, big], &[-1.0, -1.0]),
+        solve(1, 1, -1.0, &[0.0, 1.0, 1.0], &[0.0]),
+        solve(1, 1, -1.0, &[0.0, 1.0, 1.0], &[1.0]),
+        // pseudo_inverse: likewise; where another order of the cells would count otherwise.
+        pseudo_inverse(1, 1, 0.0, &[1.0, -big, 2.0]),
+        pseudo_inverse(2, 1, 0.0, &[small, -large, 0.0, two(512)]),
+        pseudo_inverse(2, 2, 0.0, &[1.0, 1.0, 1.0, 1.0, 1.0, -1.0, big, 0.0, -big, 1.0]),
+        pseudo_inverse(2, 2, 0.0, &[2.0, 1.0, -1.0, 0.0, -big, big, big, big, 0.0, 2.0]),
+        pseudo_inverse(1, 1, 0.0, &[small, 0.0, -big]),
+        pseudo_inverse(2, 1, 0.0, &[small, 0.0, large, half]),
+        pseudo_inverse(2, 2, 0.0, &[1.0, 1.0, 1.0, 1.0, max, max, -max, -1.0, max, 0.0]),
+        pseudo_inverse(2, 2, 0.0, &[1.0, 1.0, 0.0, -1.0, -big, big, big, max, big, 0.0]),
+        pseudo_inverse(3, 2, -1.0, &[1.0, 0.0, 1.0, 0.0, 0.0, 1.0, 0.0, 0.0, 1.0, 0.0, 0.0, 1.0]),
+        // qr_q: the norm of each column.
+        qr_q(1, 2, &[0.0, -big]),
+        qr_q(1, 3, &[0.0, 0.0, half]),
+        qr_q(2, 2, &[1.0, max, -1.0, -big]),
+        qr_q(2, 3, &[-1.0, 0.0, max, -1.0, 0.0, big]),
+        qr_q(2, 3, &[-1.0, max, big, -1.0, big, max]),
     ]
 }
 
@@ -192,6 +261,8 @@ pub fn refusals() -> Vec<Case> {
     for limit in [0, 1, 2, 3, 4, 59, 60, 61, 62, 1 << 32, u64::MAX] {
         out.push(eigen(4, limit, &[4.0, 1.0, 2.0, 3.0, 1.0, 3.0, 0.0, 1.0, 2.0, 0.0, 2.0, 1.0, 3.0, 1.0, 1.0, 1.0]));
         out.push(svd(3, 3, limit, &[4.0, 1.0, 2.0, 1.0, 3.0, 0.0, 2.0, 5.0, 2.0]));
+        // Settled at l = 0 after a pass, used up at l = 1.
+        out.push(eigen(4, limit, &[2.0, 0.0, 0.0, 0.0, 0.0, 0.0, 0.0, 0.0, 0.0, 0.0, 0.0, 0.0, 1.0, 1.0, 0.0, 0.0]));
         out.push(svd(0, 0, limit, &[]));
         out.push(eigen(0, limit, &[]));
     }
@@ -279,5 +350,5 @@ pub fn sizes() -> Vec<Case> {
 
 /// All of them.
 pub fn all() -> Vec<Case> {
-    [worked(), findings(), refusals(), rows(), sizes()].concat()
+    [worked(), findings(), marks(), refusals(), rows(), sizes()].concat()
 }

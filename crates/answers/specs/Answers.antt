@@ -1,4 +1,4 @@
--- The three numbers that a call comes back with, and the checks that several calls share. Definitions only.
+-- The four numbers that a call comes back with, and the checks that several calls share. Definitions only.
 use mathlib.Core.Bool.{Bool, cond, _&&_}
 use Prim.Native.Nat.{ℕ, _+_, _*_}
 use lib.Dec.{ltb, leb, eqb}
@@ -8,40 +8,40 @@ use Rattle.leaves.specs.declared.Bad.{Bad}
 use Rattle.leaves.specs.declared.Bad.the-variants.{At, Nowhere}
 use Rattle.answers.specs.declared.Answer.{Answer}
 
--- answer, place, count
-abbrev pub answered : ℕ → ℕ → ℕ → Answer
-answered a p c = record { answer = a; place = p; count = c }
+-- answer, place, index, count
+abbrev pub answered : ℕ → ℕ → ℕ → ℕ → Answer
+answered a p i c = record { answer = a; place = p; index = i; count = c }
 
 -- done, after so many passes or sweeps; of a check: it refuses nothing
 abbrev pub done : ℕ → Answer
-done c = answered 0 0 c
+done c = answered 0 0 0 c
 
 -- a refusal before the run
 abbrev pub refused : ℕ → ℕ → Answer
-refused a p = answered a p 0
+refused a p = answered a p 0 0
 
 -- nothing is refused
 abbrev pub passed : Answer → Bool
 passed x = eqb (x .answer) 0
 
 -- a refusal that fills x with +0.0
-abbrev pub emptied : ℕ → ℕ → Vec → Answer × Vec
-emptied a p x = (refused a p, zeros (length x))
+abbrev pub emptied : Answer → Vec → Answer × Vec
+emptied r x = (r, zeros (length x))
 
 -- refusal 7: the place is the index of the number that is not finite
 abbrev pub refusal7 : Bad → Answer
-refusal7 (At k) = refused 7 k
+refusal7 (At k c) = refused 7 k
 refusal7 Nowhere = done 0
+
+-- what a mark answers after so many passes or sweeps: 8 or 10 by the class of the first number that is not finite, and its index, or else the pass
+abbrev pub marked : ℕ → ℕ → Bad → Answer
+marked mark count (At k c) = answered c mark k count
+marked mark count Nowhere = done count
 
 -- or else the rest, where x is the one array that the refusal fills with +0.0
 abbrev pub unlessBad : Bad → Vec → Answer × Vec → Answer × Vec
-unlessBad (At k) x rest = emptied 7 k x
+unlessBad (At k c) x rest = emptied (refused 7 k) x
 unlessBad Nowhere x rest = rest
-
--- the index where so many other numbers are counted before the list
-abbrev pub behind : ℕ → Bad → Bad
-behind before (At i) = At (before + i)
-behind before Nowhere = Nowhere
 
 unfoldable pub limitGood : ℕ → Bool
 limitGood limit = leb 1 limit && leb limit 60

@@ -3,3 +3,5 @@ pub mod Answers
 pub mod AnswersLaws
 pub mod Early
 pub mod OutcomeLaws
+pub mod Index
+pub mod IndexLaws

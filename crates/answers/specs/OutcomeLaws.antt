@@ -51,7 +51,7 @@ unfolding limitGood
 right-limit limit p q = simp (le-leb 1 limit p, le-leb limit 60 q)
 
 pub none-seven : (b : Bad) → refusal7 b .answer ≡ 0 → b ≡ Nowhere
-none-seven (At k) h = absurd (omega arith)
+none-seven (At k c) h = absurd (omega arith)
 none-seven Nowhere h = refl
 
 -- ---- a check refuses with 6 at the most
@@ -92,7 +92,7 @@ old S answer c o p r s few same e f h = go (passed c) refl h
 
 -- refusal 7 and what comes after it
 pub same-bad : (b : Bad) (x y : Vec) (o p : Answer × Vec) → length x ≡ length y → o ≡ p → unlessBad b x o ≡ unlessBad b y p
-same-bad (At i) x y o p l e = ap (λ (n : ℕ). (refused 7 i, zeros n)) l
+same-bad (At i c) x y o p l e = ap (λ (n : ℕ). (refused 7 i, zeros n)) l
 same-bad Nowhere x y o p l e = e
 
 -- ---- a higher limit: y is x, unless x is refused with 9
@@ -121,7 +121,7 @@ pub refuses : (n : ℕ) (x : Answer) (v : Vec) → (x .answer ≡ 0 → ⊥) →
 refuses n x v d = record { finite = λ e. absurd (d e); long = λ e. absurd (d e) }
 
 pub unless-good : (n : ℕ) (b : Bad) (x : Vec) (o : Answer × Vec) → Good n o → Good n (unlessBad b x o)
-unless-good n (At i) x o g = refuses n _ _ (λ z. omega arith)
+unless-good n (At i c) x o g = refuses n _ _ (λ z. omega arith)
 unless-good n Nowhere x o g = g
 
 pub check-good : (n : ℕ) (c : Answer) (x : Vec) (o : Answer × Vec) → Good n o → Good n (cond (passed c) o (c, x))

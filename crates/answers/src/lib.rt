@@ -1,25 +1,27 @@
 // What a call comes back with, and the checks that several calls share.
 ghost use mathlib.Core.Path.{_≡_};
 ghost use Prim.Native.Nat.{_≤_};
-ghost use Rattle.answers.specs.Answers.{answered, done, refused, emptied, limitGood, lengths, refusal7, least, present, decompositionLength};
+ghost use Rattle.answers.specs.Answers.{answered, done, refused, emptied, limitGood, lengths, refusal7, marked, least, present, decompositionLength};
 use grid::fill;
 use leaves::Bad;
 
-// The three numbers: answer is 0 where the call is done, else the refusal.
+// The four numbers: answer is 0 where the call is done, else the refusal.
 #[repr(C)]
 pub struct Answer {
     pub answer: usize,
     pub place: usize,
+    pub index: usize,
     pub count: usize,
 }
 
-// The three numbers are made here and nowhere else.
-pub fn answered(answer: usize, place: usize, count: usize) -> Answer
-    ensures { λ r. ⌜ r ≡ answered answer place count ⌝ }
+// The four numbers are made here and nowhere else.
+pub fn answered(answer: usize, place: usize, index: usize, count: usize) -> Answer
+    ensures { λ r. ⌜ r ≡ answered answer place index count ⌝ }
 {
     Answer {
         answer,
         place,
+        index,
         count,
     }
 }
@@ -28,22 +30,22 @@ pub fn answered(answer: usize, place: usize, count: usize) -> Answer
 pub fn done(count: usize) -> Answer
     ensures { λ r. ⌜ r ≡ done count ⌝ }
 {
-    answered(0, 0, count)
+    answered(0, 0, 0, count)
 }
 
 // A refusal before the run.
 pub fn refused(answer: usize, place: usize) -> Answer
     ensures { λ r. ⌜ r ≡ refused answer place ⌝ }
 {
-    answered(answer, place, 0)
+    answered(answer, place, 0, 0)
 }
 
 // A refusal before or after a run, which fills x with +0.0.
-pub fn refuse(answer: usize, place: usize, x: &mut [f64]) -> Answer
-    ensures { λ r. ⌜ (r, now (x .exit)) ≡ emptied answer place (now (x .entry)) ⌝ }
+pub fn refuse(r: Answer, x: &mut [f64]) -> Answer
+    ensures { λ y. ⌜ (y, now (x .exit)) ≡ emptied r (now (x .entry)) ⌝ }
 {
     fill(x);
-    refused(answer, place)
+    r
 }
 
 // Refusal 7 with its place, or the pass.
@@ -51,8 +53,18 @@ pub fn refusal7(b: Bad) -> Answer
     ensures { λ r. ⌜ r ≡ refusal7 b ⌝ }
 {
     match b {
-        Bad::At(k) => refused(7, k),
+        Bad::At(k, _) => refused(7, k),
         Bad::Nowhere => done(0),
+    }
+}
+
+// What a mark answers after so many passes or sweeps: 8 or 10, or the pass.
+pub fn marked(mark: usize, count: usize, b: Bad) -> Answer
+    ensures { λ r. ⌜ r ≡ marked mark count b ⌝ }
+{
+    match b {
+        Bad::At(k, c) => answered(c, mark, k, count),
+        Bad::Nowhere => done(count),
     }
 }
 

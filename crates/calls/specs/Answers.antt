@@ -6,11 +6,16 @@ use lib.ListN.{length}
 use Rattle.grid.specs.Real.{Vec}
 use Rattle.leaves.specs.Finite.{Finite}
 use Rattle.answers.specs.Early.{Early}
+use Rattle.answers.specs.Index.{AtMark}
 use Rattle.answers.specs.declared.Answer.{Answer}
-use Rattle.solve.specs.Solve.{solve, pseudoInverse}
+use Rattle.solve.specs.Solve.{solution, inverted, solve, pseudoInverse}
+use Rattle.solve.specs.Index as Solve
+use Rattle.solve.specs.IndexLaws.{solve-index-points, solve-index-zero, pseudo-inverse-index-points, pseudo-inverse-index-zero}
 use Rattle.solve.specs.Out.{solve-finite-out, pseudo-inverse-finite-out}
 use Rattle.solve.specs.Old.{solve-old-contents, pseudo-inverse-old-contents}
 use Rattle.qr.specs.Qr.{qrQ}
+use Rattle.qr.specs.Index as Qr
+use Rattle.qr.specs.IndexLaws.{qr-q-index-points, qr-q-index-zero}
 use Rattle.qr.specs.Out.{qr-q-finite-out}
 use Rattle.qr.specs.Old.{qr-q-old-contents}
 
@@ -41,3 +46,28 @@ pseudo-inverse-old-contents-calls m n u vt tol d x y o p l e f = alike _ _ o p e
 
 pub qr-q-old-contents-calls : (m k : ℕ) (a x y : Vec) (o p : Answer × Vec) → length x ≡ length y → o ≡ qrQ m k a x → p ≡ qrQ m k a y → (Early (o .0) → ⊥) → o ≡ p
 qr-q-old-contents-calls m k a x y o p l e f = alike _ _ o p e f (qr-q-old-contents m k a x y l)
+
+-- what the index says
+pointed : (P : Answer → Type 0) (e o : Answer × Vec) → o ≡ e → (AtMark (e .0) → P (e .0)) → AtMark (o .0) → P (o .0)
+pointed P e o p h = subst (λ (x : Answer × Vec). AtMark (x .0) → P (x .0)) (sym p) h
+
+unmarked : (e o : Answer × Vec) → o ≡ e → ((AtMark (e .0) → ⊥) → e .0 .index ≡ 0) → (AtMark (o .0) → ⊥) → o .0 .index ≡ 0
+unmarked e o p h = subst (λ (x : Answer × Vec). (AtMark (x .0) → ⊥) → x .0 .index ≡ 0) (sym p) h
+
+pub solve-index-points-calls : (m n u vt : ℕ) (tol : Float) (d b x : Vec) (o : Answer × Vec) → o ≡ solve m n u vt tol d b x → AtMark (o .0) → Solve.Points (solution m n tol d b) (o .0)
+solve-index-points-calls m n u vt tol d b x o p = pointed (Solve.Points (solution m n tol d b)) _ o p (solve-index-points m n u vt tol d b x)
+
+pub solve-index-zero-calls : (m n u vt : ℕ) (tol : Float) (d b x : Vec) (o : Answer × Vec) → o ≡ solve m n u vt tol d b x → (AtMark (o .0) → ⊥) → o .0 .index ≡ 0
+solve-index-zero-calls m n u vt tol d b x o p = unmarked _ o p (solve-index-zero m n u vt tol d b x)
+
+pub pseudo-inverse-index-points-calls : (m n u vt : ℕ) (tol : Float) (d x : Vec) (o : Answer × Vec) → o ≡ pseudoInverse m n u vt tol d x → AtMark (o .0) → Solve.Points (inverted m n tol d) (o .0)
+pseudo-inverse-index-points-calls m n u vt tol d x o p = pointed (Solve.Points (inverted m n tol d)) _ o p (pseudo-inverse-index-points m n u vt tol d x)
+
+pub pseudo-inverse-index-zero-calls : (m n u vt : ℕ) (tol : Float) (d x : Vec) (o : Answer × Vec) → o ≡ pseudoInverse m n u vt tol d x → (AtMark (o .0) → ⊥) → o .0 .index ≡ 0
+pseudo-inverse-index-zero-calls m n u vt tol d x o p = unmarked _ o p (pseudo-inverse-index-zero m n u vt tol d x)
+
+pub qr-q-index-points-calls : (m k : ℕ) (a x : Vec) (o : Answer × Vec) → o ≡ qrQ m k a x → AtMark (o .0) → Qr.Points m k a (o .0)
+qr-q-index-points-calls m k a x o p = pointed (Qr.Points m k a) _ o p (qr-q-index-points m k a x)
+
+pub qr-q-index-zero-calls : (m k : ℕ) (a x : Vec) (o : Answer × Vec) → o ≡ qrQ m k a x → (AtMark (o .0) → ⊥) → o .0 .index ≡ 0
+qr-q-index-zero-calls m k a x o p = unmarked _ o p (qr-q-index-zero m k a x)

@@ -9,29 +9,40 @@ use Rattle.grid.specs.Real.{Vec, at}
 use Rattle.leaves.specs.Leaf.{isFinite}
 use Rattle.answers.specs.Answers.{done, answered}
 use Rattle.answers.specs.Early.{Early}
+use Rattle.answers.specs.Index.{Class, AtMark}
 use Rattle.ql.specs.Told.{bad, used}
 use Rattle.eigen.specs.Eigen.{eigen}
-use Rattle.eigen.specs.Exact.{Outcome, Promised, Taken, Done, Halted, Broken0, Broken2, Columns}
+use Rattle.eigen.specs.Exact.{Outcome, Promised, Taken, Done, Halted, Broken0, Broken2, Columns, Points}
 use Rattle.eigen.specs.ExactLaws.{done-exactly, limit-exactly, mark0-exactly, mark1-exactly, mark2-exactly}
 use Rattle.eigen.specs.Result.{values-ascend, columns-with-values, finite-out}
 use Rattle.eigen.specs.Old.{eigen-old-contents}
+use Rattle.eigen.specs.Index.{index-points, index-zero}
 
 -- each number exactly where 01 gives it
 module _ (n limit : ℕ) (a work result : Vec) (x : Outcome) (p : Promised n limit a work result x) (f : Taken n limit a work result) where
   pub done-exactly-calls : (c : ℕ) → (x .0 ≡ done c) ↔ ((values : Vec) × (vectors : Vec) × Done n limit a c values vectors)
   done-exactly-calls c = subst (λ (o : Outcome). (o .0 ≡ done c) ↔ ((values : Vec) × (vectors : Vec) × Done n limit a c values vectors)) (sym p) (done-exactly n limit a work result f c)
 
-  pub limit-exactly-calls : (l c : ℕ) → (x .0 ≡ answered 9 l c) ↔ Halted n limit a used l c
-  limit-exactly-calls l c = subst (λ (o : Outcome). (o .0 ≡ answered 9 l c) ↔ Halted n limit a used l c) (sym p) (limit-exactly n limit a work result f l c)
+  pub limit-exactly-calls : (l c : ℕ) → (x .0 ≡ answered 9 l 0 c) ↔ Halted n limit a used l c
+  limit-exactly-calls l c = subst (λ (o : Outcome). (o .0 ≡ answered 9 l 0 c) ↔ Halted n limit a used l c) (sym p) (limit-exactly n limit a work result f l c)
 
-  pub mark0-exactly-calls : (x .0 ≡ answered 8 0 0) ↔ Broken0 n a
-  mark0-exactly-calls = subst (λ (o : Outcome). (o .0 ≡ answered 8 0 0) ↔ Broken0 n a) (sym p) (mark0-exactly n limit a work result f)
+  pub mark0-exactly-calls : (b i : ℕ) → Class b → (x .0 ≡ answered b 0 i 0) ↔ Broken0 n a b i
+  mark0-exactly-calls b i k = subst (λ (o : Outcome). (o .0 ≡ answered b 0 i 0) ↔ Broken0 n a b i) (sym p) (mark0-exactly n limit a work result f b i k)
 
-  pub mark1-exactly-calls : (c : ℕ) → (x .0 ≡ answered 8 1 c) ↔ ((l : ℕ) × Halted n limit a bad l c)
-  mark1-exactly-calls c = subst (λ (o : Outcome). (o .0 ≡ answered 8 1 c) ↔ ((l : ℕ) × Halted n limit a bad l c)) (sym p) (mark1-exactly n limit a work result f c)
+  pub mark1-exactly-calls : (b i c : ℕ) → Class b → (x .0 ≡ answered b 1 i c) ↔ ((l : ℕ) × Halted n limit a (bad b i) l c)
+  mark1-exactly-calls b i c k =
+      subst (λ (o : Outcome). (o .0 ≡ answered b 1 i c) ↔ ((l : ℕ) × Halted n limit a (bad b i) l c)) (sym p) (mark1-exactly n limit a work result f b i c k)
 
-  pub mark2-exactly-calls : (c : ℕ) → (x .0 ≡ answered 8 2 c) ↔ Broken2 n limit a c
-  mark2-exactly-calls c = subst (λ (o : Outcome). (o .0 ≡ answered 8 2 c) ↔ Broken2 n limit a c) (sym p) (mark2-exactly n limit a work result f c)
+  pub mark2-exactly-calls : (b i c : ℕ) → Class b → (x .0 ≡ answered b 2 i c) ↔ Broken2 n limit a b i c
+  mark2-exactly-calls b i c k = subst (λ (o : Outcome). (o .0 ≡ answered b 2 i c) ↔ Broken2 n limit a b i c) (sym p) (mark2-exactly n limit a work result f b i c k)
+
+-- what the index says
+module _ (n limit : ℕ) (a work result : Vec) (x : Outcome) (p : Promised n limit a work result x) where
+  pub index-points-calls : AtMark (x .0) → Points n limit a (x .0)
+  index-points-calls = subst (λ (o : Outcome). AtMark (o .0) → Points n limit a (o .0)) (sym p) (index-points n limit a work result)
+
+  pub index-zero-calls : (AtMark (x .0) → ⊥) → x .0 .index ≡ 0
+  index-zero-calls = subst (λ (o : Outcome). (AtMark (o .0) → ⊥) → o .0 .index ≡ 0) (sym p) (index-zero n limit a work result)
 
 -- where it is done
 module _ (n limit : ℕ) (a work result : Vec) (x : Outcome) (p : Promised n limit a work result x) (z : x .0 .answer ≡ 0) where

@@ -1,7 +1,7 @@
 -- Calls of `svd` that meet its promise: x and y are what they came back with. Laws only.
 use mathlib.Core.Path.{_≡_, sym, ap, _∙_, subst}
 use mathlib.Core.Bool.{true}
-use mathlib.Core.Logic.{_↔_}
+use mathlib.Core.Logic.{_↔_, _⊎_}
 use Prim.Native.Nat.{ℕ, _≤_, _<_}
 use lib.Ieee.{le}
 use lib.ListN.{length, getD}
@@ -9,6 +9,7 @@ use Rattle.grid.specs.Real.{Vec, at}
 use Rattle.leaves.specs.Leaf.{isFinite}
 use Rattle.answers.specs.Answers.{done, answered, least, decompositionLength}
 use Rattle.answers.specs.Early.{Early}
+use Rattle.answers.specs.Index.{AtMark}
 use Rattle.answers.specs.declared.Answer.{Answer}
 use Rattle.jacobi.specs.Told.{bad, used}
 use Rattle.svd.specs.Svd.{svd}
@@ -21,20 +22,33 @@ use Rattle.svd.specs.Limit.{svd-limit-raised}
 use Rattle.svd.specs.Out.{svd-cells-u, svd-cells-vt, vt-row-cells, svd-finite-out}
 use Rattle.svd.specs.Flags.{svd-flags-numbers, svd-flags-values, svd-flags-u, svd-flags-vt}
 use Rattle.svd.specs.Old.{svd-old-contents}
+use Rattle.svd.specs.Index.{Points}
+use Rattle.svd.specs.IndexLaws.{svd-index-points, svd-index-zero}
 
 -- each number exactly where 01 gives it
 module _ (m n u vt limit : ℕ) (matrix work result : Vec) (x : Outcome) (p : Promised m n u vt limit matrix work result x) (f : Taken m n u vt limit matrix work result) where
   pub svd-done-exactly-calls : (c : ℕ) → (x .0 ≡ done c) ↔ Done m n limit matrix c
   svd-done-exactly-calls c = subst (λ (o : Outcome). (o .0 ≡ done c) ↔ Done m n limit matrix c) (sym p) (svd-done-exactly m n u vt limit matrix work result f c)
 
-  pub svd-limit-exactly-calls : (c : ℕ) → (x .0 ≡ answered 9 c c) ↔ Halted m n limit matrix used c
-  svd-limit-exactly-calls c = subst (λ (o : Outcome). (o .0 ≡ answered 9 c c) ↔ Halted m n limit matrix used c) (sym p) (svd-limit-exactly m n u vt limit matrix work result f c)
+  pub svd-limit-exactly-calls : (c : ℕ) → (x .0 ≡ answered 9 c 0 c) ↔ Halted m n limit matrix used c
+  svd-limit-exactly-calls c = subst (λ (o : Outcome). (o .0 ≡ answered 9 c 0 c) ↔ Halted m n limit matrix used c) (sym p) (svd-limit-exactly m n u vt limit matrix work result f c)
 
-  pub svd-mark1-exactly-calls : (c : ℕ) → (x .0 ≡ answered 8 1 c) ↔ Halted m n limit matrix bad c
-  svd-mark1-exactly-calls c = subst (λ (o : Outcome). (o .0 ≡ answered 8 1 c) ↔ Halted m n limit matrix bad c) (sym p) (svd-mark1-exactly m n u vt limit matrix work result f c)
+  pub svd-mark1-exactly-calls : (a i c : ℕ) → (a ≡ 8) ⊎ (a ≡ 10) → (x .0 ≡ answered a 1 i c) ↔ Halted m n limit matrix (bad a i) c
+  svd-mark1-exactly-calls a i c k =
+      subst (λ (o : Outcome). (o .0 ≡ answered a 1 i c) ↔ Halted m n limit matrix (bad a i) c) (sym p) (svd-mark1-exactly m n u vt limit matrix work result f a i c k)
 
-  pub svd-mark2-exactly-calls : (c : ℕ) → (x .0 ≡ answered 8 2 c) ↔ Broken2 m n limit matrix c
-  svd-mark2-exactly-calls c = subst (λ (o : Outcome). (o .0 ≡ answered 8 2 c) ↔ Broken2 m n limit matrix c) (sym p) (svd-mark2-exactly m n u vt limit matrix work result f c)
+  pub svd-mark2-exactly-calls : (a i c : ℕ) → (a ≡ 8) ⊎ (a ≡ 10) → (x .0 ≡ answered a 2 i c) ↔ Broken2 m n limit matrix c a i
+  svd-mark2-exactly-calls a i c k =
+      subst (λ (o : Outcome). (o .0 ≡ answered a 2 i c) ↔ Broken2 m n limit matrix c a i) (sym p) (svd-mark2-exactly m n u vt limit matrix work result f a i c k)
+
+-- what the index says
+module _ (m n u vt limit : ℕ) (matrix work result : Vec) (x : Outcome) (p : Promised m n u vt limit matrix work result x) where
+  pub svd-index-points-calls : AtMark (x .0) → Points m n limit matrix (x .0)
+  svd-index-points-calls =
+      subst (λ (o : Outcome). AtMark (o .0) → Points m n limit matrix (o .0)) (sym p) (svd-index-points m n u vt limit matrix work result)
+
+  pub svd-index-zero-calls : (AtMark (x .0) → ⊥) → x .0 .index ≡ 0
+  svd-index-zero-calls = subst (λ (o : Outcome). (AtMark (o .0) → ⊥) → o .0 .index ≡ 0) (sym p) (svd-index-zero m n u vt limit matrix work result)
 
 -- where it is done
 module _ (m n u vt limit : ℕ) (matrix work result : Vec) (x : Outcome) (p : Promised m n u vt limit matrix work result x) (z : x .0 .answer ≡ 0) where

@@ -28,7 +28,7 @@ use Rattle.qr.specs.Qr as qr
 data Row : Type 0 where
   root : (x r : ℕ) → Row
   hypot : (x y r : ℕ) → Row
-  eigen : (n : ℕ) (matrix : List ℕ) (answer place count : ℕ) (result : List ℕ) → Row
+  eigen : (n : ℕ) (matrix : List ℕ) (answer place index count : ℕ) (result : List ℕ) → Row
   svd : (m n : ℕ) (matrix : List ℕ) (count : ℕ) (result : List ℕ) → Row
   pseudoInverse : (m n tolerance : ℕ) (decomposition answer : List ℕ) → Row
   qrQ : (m k : ℕ) (matrix answer : List ℕ) → Row
@@ -40,7 +40,7 @@ alike (x ∷ xs) [] = false
 alike (x ∷ xs) (y ∷ ys) = eqb x y && alike xs ys
 
 numbers : Answer → List ℕ
-numbers a = a .answer ∷ a .place ∷ a .count ∷ []
+numbers a = a .answer ∷ a .place ∷ a .index ∷ a .count ∷ []
 
 -- the definitions, opened once
 unfoldable number : ℕ → Float
@@ -59,12 +59,12 @@ of-bits l = map number l
 ones : ℕ → Vec
 ones n = replicate n one64
 
--- a call gives these numbers: (three numbers, work, result)
+-- a call gives these numbers: (four numbers, work, result)
 unfoldable given : Row → List ℕ
-unfolding ofBits toBits number bits of-bits numbers ones add sub mul div neg lt le eq ne lo.seek lo.first lo.times lo.upto lo.down lo.rounds lo.drops lo.fall ta.table ta.rows ro.whole ro.rootOf ro.root le.magnitude le.larger le.isFinite le.hypotOf le.hypot sc.firstBad sc.placeOf sc.badLower sc.firstBadLower sc.firstBadOf sc.firstBadCell an.limitGood an.lengths an.least an.present an.decompositionLength tr.scaleOf tr.skipRow tr.overScale tr.clear tr.against tr.generate tr.similarColumn tr.similarity tr.overH tr.lessen tr.updateColumn tr.updates tr.reflect tr.skip tr.reduce tr.householder tr.reduction tr.columnOver tr.dot tr.takeOff tr.turnColumns tr.clearColumn tr.apply tr.accumulate tr.accumulation tr.copyLast tr.moveLast tr.tred2 pa.pythag pa.signed pa.shift pa.lessened pa.rotated pa.spin pa.spins pa.landed pa.transformed pa.mark1 pa.verdict pa.pass ql.movedUp ql.split ql.opened ql.iterated ql.closed ql.stage ql.turn ql.run ql.leastFrom ql.swapped ql.sortStep ql.sorted ql.mark2 ql.finished ql.tql2 ei.copyRow ei.columns ei.mirrorRow ei.rows ei.mark0 ei.marked ei.decomposed ei.given ei.entered ei.eigen ja.gram ja.skipped ja.rotationOf ja.turned ja.pairDone ja.pairsOf ja.sweep ja.factorsBad ja.verdict ja.swept ja.sweeps ja.normSq ja.divided ja.normalStep ja.normalised ja.allBad ja.finished ja.jacobi so.rank so.noted so.order sv.longest sv.workLength sv.source sv.columnLoaded sv.matrixLoaded sv.eyed sv.loaded sv.columnOut sv.factorOut sv.sortedOut sv.checks sv.ran sv.svd sl.columnSum sl.coefficient sl.solution sl.inverse sl.pinvSum sl.inverted sl.solveChecks sl.inverseChecks sl.marked sl.solve sl.pseudoInverse qr.dot qr.lessened qr.pass qr.passes qr.norm qr.over qr.normalised qr.putColumn qr.finished qr.column qr.columns qr.checks qr.qrQ
+unfolding ofBits toBits number bits of-bits numbers ones add sub mul div neg lt le eq ne lo.seek lo.first lo.times lo.upto lo.down lo.rounds lo.drops lo.fall ta.table ta.rows ro.whole ro.rootOf ro.root le.magnitude le.larger le.isFinite le.hypotOf le.hypot sc.classOf sc.scan sc.placeOf sc.lowerOf sc.firstBadLower sc.byRows an.limitGood an.lengths an.least an.present an.decompositionLength tr.scaleOf tr.skipRow tr.overScale tr.clear tr.against tr.generate tr.similarColumn tr.similarity tr.overH tr.lessen tr.updateColumn tr.updates tr.reflect tr.skip tr.reduce tr.householder tr.reduction tr.columnOver tr.dot tr.takeOff tr.turnColumns tr.clearColumn tr.apply tr.accumulate tr.accumulation tr.copyLast tr.moveLast tr.tred2 pa.pythag pa.signed pa.shift pa.lessened pa.rotated pa.spin pa.spins pa.landed pa.transformed pa.mark1 pa.settled pa.verdict pa.pass ql.movedUp ql.split ql.opened ql.iterated ql.closed ql.stage ql.turn ql.run ql.leastFrom ql.swapped ql.sortStep ql.sorted ql.mark2 ql.finished ql.tql2 ei.copyRow ei.columns ei.mirrorRow ei.rows ei.mark0 ei.afterTred ei.decomposed ei.given ei.entered ei.eigen ja.gram ja.skipped ja.rotationOf ja.turned ja.pairDone ja.pairsOf ja.sweep ja.factorsBad ja.verdict ja.swept ja.sweeps ja.normSq ja.divided ja.normalStep ja.normalised ja.allBad ja.finished ja.jacobi so.rank so.noted so.order sv.longest sv.workLength sv.source sv.columnLoaded sv.matrixLoaded sv.eyed sv.loaded sv.columnOut sv.factorOut sv.sortedOut sv.checks sv.ran sv.svd sl.columnSum sl.coefficient sl.solution sl.inverse sl.pinvSum sl.inverted sl.solveChecks sl.inverseChecks sl.looked sl.solve sl.pseudoInverse qr.dot qr.lessened qr.pass qr.passes qr.norm qr.over qr.normalised qr.putColumn qr.finished qr.column qr.columns qr.checks qr.qrQ
 given (root x r) = toBits binary64 (ro.root (number x)) ∷ []
 given (hypot x y r) = toBits binary64 (le.hypot (number x) (number y)) ∷ []
-given (eigen n matrix answer place count result) =
+given (eigen n matrix answer place index count result) =
     let x = ei.eigen n 60 (of-bits matrix) (ones n) (ones (n + n * n)) in
     numbers (x .0) ++ bits (x .1) ++ bits (x .2)
 given (svd m n matrix count result) =
@@ -82,10 +82,10 @@ unfoldable wanted : Row → List ℕ
 unfolding sv.workLength sv.longest an.least
 wanted (root x r) = r ∷ []
 wanted (hypot x y r) = r ∷ []
-wanted (eigen n matrix answer place count result) = (answer ∷ place ∷ count ∷ []) ++ replicate n 0 ++ result
-wanted (svd m n matrix count result) = (0 ∷ 0 ∷ count ∷ []) ++ replicate (sv.workLength m n) 0 ++ result
-wanted (pseudoInverse m n tolerance decomposition answer) = (0 ∷ 0 ∷ 0 ∷ []) ++ answer
-wanted (qrQ m k matrix answer) = (0 ∷ 0 ∷ 0 ∷ []) ++ answer
+wanted (eigen n matrix answer place index count result) = (answer ∷ place ∷ index ∷ count ∷ []) ++ replicate n 0 ++ result
+wanted (svd m n matrix count result) = (0 ∷ 0 ∷ 0 ∷ count ∷ []) ++ replicate (sv.workLength m n) 0 ++ result
+wanted (pseudoInverse m n tolerance decomposition answer) = (0 ∷ 0 ∷ 0 ∷ 0 ∷ []) ++ answer
+wanted (qrQ m k matrix answer) = (0 ∷ 0 ∷ 0 ∷ 0 ∷ []) ++ answer
 
 unfoldable all : List Row → Bool
 unfolding alike given wanted
@@ -132,11 +132,11 @@ table =
     ∷ root two 0x3ff6_a09e_667f_3bcd
     ∷ hypot three four five
     ∷ hypot 0 0 0
-    ∷ eigen 0 [] 0 0 0 []
-    ∷ eigen 1 (minus-zero ∷ []) 0 0 0 (0 ∷ one ∷ [])
-    ∷ eigen 2 (two ∷ 0 ∷ 0 ∷ one ∷ []) 0 0 0 (one ∷ two ∷ 0 ∷ one ∷ one ∷ 0 ∷ [])
-    ∷ eigen 2 (one ∷ not-a-number ∷ 0 ∷ two ∷ []) 0 0 0 (one ∷ two ∷ one ∷ 0 ∷ 0 ∷ one ∷ [])
-    ∷ eigen 2 (one ∷ 0 ∷ not-a-number ∷ two ∷ []) 7 2 0 (0 ∷ 0 ∷ 0 ∷ 0 ∷ 0 ∷ 0 ∷ [])
+    ∷ eigen 0 [] 0 0 0 0 []
+    ∷ eigen 1 (minus-zero ∷ []) 0 0 0 0 (0 ∷ one ∷ [])
+    ∷ eigen 2 (two ∷ 0 ∷ 0 ∷ one ∷ []) 0 0 0 0 (one ∷ two ∷ 0 ∷ one ∷ one ∷ 0 ∷ [])
+    ∷ eigen 2 (one ∷ not-a-number ∷ 0 ∷ two ∷ []) 0 0 0 0 (one ∷ two ∷ one ∷ 0 ∷ 0 ∷ one ∷ [])
+    ∷ eigen 2 (one ∷ 0 ∷ not-a-number ∷ two ∷ []) 7 2 0 0 (0 ∷ 0 ∷ 0 ∷ 0 ∷ 0 ∷ 0 ∷ [])
     ∷ svd 2 2 (two ∷ 0 ∷ 0 ∷ four ∷ []) 1 decomposition
     ∷ pseudoInverse 2 2 0 decomposition (half ∷ 0 ∷ 0 ∷ quarter ∷ [])
     ∷ pseudoInverse 2 2 two decomposition (0 ∷ 0 ∷ 0 ∷ quarter ∷ [])
@@ -148,3 +148,38 @@ table =
 worked : all table ≡ true
 unfolding all table
 worked = refl
+
+-- ---- not marked P: both classes at the marks of `symmetric_eigen`, and the index, with 01's 10 at mark 0 first
+
+abbrev minus-one : ℕ
+minus-one = 0xbff0_0000_0000_0000
+
+-- 2^1022 and 2^1023, and the largest number there is
+abbrev large : ℕ
+large = 0x7fd0_0000_0000_0000
+
+abbrev huge : ℕ
+huge = 0x7fe0_0000_0000_0000
+
+abbrev minus-huge : ℕ
+minus-huge = 0xffe0_0000_0000_0000
+
+abbrev largest : ℕ
+largest = 0x7fef_ffff_ffff_ffff
+
+abbrev minus-largest : ℕ
+minus-largest = 0xffef_ffff_ffff_ffff
+
+-- in d, in d, in e, in e, in d
+marks : List Row
+marks =
+    eigen 3 (0 ∷ 0 ∷ 0 ∷ 0 ∷ 0 ∷ 0 ∷ huge ∷ huge ∷ 0 ∷ []) 10 0 0 0 (replicate 12 0)
+    ∷ eigen 4 (one ∷ 0 ∷ 0 ∷ 0 ∷ one ∷ minus-huge ∷ 0 ∷ 0 ∷ huge ∷ 0 ∷ huge ∷ 0 ∷ one ∷ huge ∷ 0 ∷ 0 ∷ []) 8 0 1 0 (replicate 20 0)
+    ∷ eigen 2 (0 ∷ 0 ∷ largest ∷ 0 ∷ []) 10 1 3 1 (replicate 6 0)
+    ∷ eigen 3 (0 ∷ 0 ∷ 0 ∷ large ∷ minus-one ∷ 0 ∷ 0 ∷ minus-largest ∷ large ∷ []) 8 1 4 1 (replicate 12 0)
+    ∷ eigen 2 (large ∷ 0 ∷ large ∷ largest ∷ []) 8 2 1 1 (replicate 6 0)
+    ∷ []
+
+marks-worked : all marks ≡ true
+unfolding all marks
+marks-worked = refl

@@ -11,7 +11,7 @@ use answers::Answer;
 use svd::Extent;
 
 #[no_mangle]
-pub extern "C" fn crewelmarsh_symmetric_eigen_abi1(
+pub extern "C" fn crewelmarsh_symmetric_eigen_abi2(
     n: usize,
     limit: usize,
     matrix: &[f64],
@@ -24,7 +24,7 @@ pub extern "C" fn crewelmarsh_symmetric_eigen_abi1(
 }
 
 #[no_mangle]
-pub extern "C" fn crewelmarsh_svd_abi1(
+pub extern "C" fn crewelmarsh_svd_abi2(
     m: usize,
     n: usize,
     want_u: usize,
@@ -40,7 +40,7 @@ pub extern "C" fn crewelmarsh_svd_abi1(
 }
 
 #[no_mangle]
-pub extern "C" fn crewelmarsh_vt_row_extent_abi1(
+pub extern "C" fn crewelmarsh_vt_row_extent_abi2(
     m: usize,
     n: usize,
     has_u: usize,
@@ -54,7 +54,7 @@ pub extern "C" fn crewelmarsh_vt_row_extent_abi1(
 }
 
 #[no_mangle]
-pub extern "C" fn crewelmarsh_solve_abi1(
+pub extern "C" fn crewelmarsh_solve_abi2(
     m: usize,
     n: usize,
     has_u: usize,
@@ -79,7 +79,7 @@ pub extern "C" fn crewelmarsh_solve_abi1(
 }
 
 #[no_mangle]
-pub extern "C" fn crewelmarsh_pseudo_inverse_abi1(
+pub extern "C" fn crewelmarsh_pseudo_inverse_abi2(
     m: usize,
     n: usize,
     has_u: usize,
@@ -94,7 +94,7 @@ pub extern "C" fn crewelmarsh_pseudo_inverse_abi1(
 }
 
 #[no_mangle]
-pub extern "C" fn crewelmarsh_qr_q_abi1(
+pub extern "C" fn crewelmarsh_qr_q_abi2(
     m: usize,
     k: usize,
     matrix: &[f64],

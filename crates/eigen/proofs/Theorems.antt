@@ -12,7 +12,7 @@ use lib.ListN.{length, length-replicate}
 use Rattle.grid.specs.Real.{Vec, zero64, zeros}
 use Rattle.grid.specs.Cell.{at2, entry}
 use Rattle.grid.specs.CellLaws.{Sized}
-use Rattle.leaves.specs.Scan.{firstBadLower}
+use Rattle.leaves.specs.Scan.{isBad, firstBadLower}
 use Rattle.leaves.specs.ScanLaws.{lower-same}
 use Rattle.answers.specs.Answers.{done, passed, limitGood, lengths, refusal7}
 use Rattle.answers.specs.OutcomeLaws.{right-limit, Settled, always, by-test}
@@ -20,7 +20,7 @@ use Rattle.answers.specs.declared.Answer.{Answer}
 use Rattle.tred.specs.Tred.{tred2}
 use Rattle.tred.specs.Lower.{lower}
 use Rattle.ql.specs.Limit.{tql2-limit}
-use Rattle.eigen.specs.Eigen.{columns, mark0, marked, decomposed, cleared, given, entered, eigen}
+use Rattle.eigen.specs.Eigen.{columns, mark0, afterTred, decomposed, cleared, given, entered, eigen}
 use Rattle.eigen.specs.Copies.{columns-cell, columns-long}
 use Rattle.eigen.specs.Document.{SymmetricEigen}
 use Rattle.eigen.specs.DocumentLaws.{symmetric-eigen-once}
@@ -48,7 +48,7 @@ decomposed-alike : (n limit : ℕ) (a b : Vec) → 0 < n → Alike n a b
     → decomposed n limit a (zeros (n * n), zeros n, zeros n) ≡ decomposed n limit b (zeros (n * n), zeros n, zeros n)
 unfolding decomposed
 decomposed-alike n limit a b z h =
-    ap (marked n limit) (lower n (columns n a v) (columns n b v) (zeros n) (zeros n) (zeros n) (zeros n) z (sized n a) (sized n b) cells)
+    ap (afterTred n limit) (lower n (columns n a v) (columns n b v) (zeros n) (zeros n) (zeros n) (zeros n) z (sized n a) (sized n b) cells)
   where
     v : Vec
     v = zeros (n * n)
@@ -90,9 +90,9 @@ answer3 x = x .0 .answer
 abbrev answer4 : Answer × Vec × Vec × Vec → ℕ
 answer4 x = x .0 .answer
 
-marked-limit : (n k m : ℕ) (x : Vec × Vec × Vec) → 1 ≤ k → k ≤ m → Settled answer4 (marked n k x) (marked n m x)
-unfolding marked
-marked-limit n k m x z l = by-test answer4 (mark0 n (x .0) (x .1) (x .2)) _ refl (always answer4) (record { same = tql2-limit n k m x z l })
+tred-limit : (n k m : ℕ) (x : Vec × Vec × Vec) → 1 ≤ k → k ≤ m → Settled answer4 (afterTred n k x) (afterTred n m x)
+unfolding afterTred
+tred-limit n k m x z l = by-test answer4 (isBad (mark0 n (x .0) (x .1) (x .2))) _ refl (always answer4) (record { same = tql2-limit n k m x z l })
 
 given-limit : (n : ℕ) (x y : Answer × Vec × Vec × Vec) → Settled answer4 x y → Settled answer3 (given n x) (given n y)
 given-limit n x y s = record { same = λ h. ap (given n) (s .same (λ e. h (ap (λ (t : Answer). t .answer) (given-answer n x) ∙ e))) }
@@ -101,7 +101,7 @@ entered-limit : (n k m : ℕ) (a : Vec) → 1 ≤ k → k ≤ m → Settled answ
 unfolding entered decomposed
 entered-limit n k m a z l =
     by-test answer3 (passed (refusal7 (firstBadLower n a))) _ refl
-    (by-test answer3 (eqb n 0) _ refl (always answer3) (given-limit n _ _ (marked-limit n k m _ z l)))
+    (by-test answer3 (eqb n 0) _ refl (always answer3) (given-limit n _ _ (tred-limit n k m _ z l)))
     (always answer3)
 
 eigen-limit : (n k m : ℕ) (a work result : Vec) → 1 ≤ k → k ≤ m → m ≤ 60 → Settled answer3 (eigen n k a work result) (eigen n m a work result)

@@ -1,5 +1,5 @@
 -- What a call of `symmetric_eigen` gives, for every input: (answer, work afterwards, result afterwards), in the order of 01's table. Definitions only.
-use mathlib.Core.Bool.{Bool, cond, not, _||_}
+use mathlib.Core.Bool.{cond, not}
 use mathlib.Core.List.{_++_}
 use Prim.Native.Nat.{ℕ, _+_, _*_}
 use lib.Dec.{ltb, eqb}
@@ -7,11 +7,11 @@ use lib.ListN.{length}
 use Rattle.grid.specs.Loop.{upto}
 use Rattle.grid.specs.Real.{Vec, zeros}
 use Rattle.grid.specs.Cell.{at2, put2, entry}
-use Rattle.leaves.specs.Scan.{isBad, firstBadCell, firstBadLower}
-use Rattle.answers.specs.Answers.{answered, done, refused, passed, limitGood, lengths, refusal7}
+use Rattle.leaves.specs.Scan.{isBad, firstBad, byRows, firstBadLower}
+use Rattle.leaves.specs.declared.Bad.{Bad}
+use Rattle.answers.specs.Answers.{done, refused, passed, limitGood, lengths, refusal7, marked}
 use Rattle.answers.specs.declared.Answer.{Answer}
 use Rattle.tred.specs.Tred.{tred2}
-use Rattle.pass.specs.Pass.{mark1}
 use Rattle.ql.specs.Ql.{tql2}
 
 -- ---- the matrix comes in row by row and is worked on column by column: cell (i, j) of v is entry (i, j) of a
@@ -41,20 +41,20 @@ rows n v = upto (mirrorRow n) 0 n v
 
 -- ---- the run: v, d and e as they are lent, and afterwards the answer, v, d and e
 
--- mark 0: a number of d, of e or of v is not finite
-unfoldable pub mark0 : ℕ → Vec → Vec → Vec → Bool
-mark0 n v d e = mark1 d e || isBad (firstBadCell n v)
+-- mark 0 looks at d, then at e, then at v row by row: the first number that is not finite
+unfoldable pub mark0 : ℕ → Vec → Vec → Vec → Bad
+mark0 n v d e = firstBad (d ++ e ++ byRows n v)
 
 -- after tred2: mark 0, or tql2
-unfoldable pub marked : ℕ → ℕ → Vec × Vec × Vec → Answer × Vec × Vec × Vec
-marked n limit (v, d, e) = cond (mark0 n v d e) (answered 8 0 0, v, d, e) (tql2 n limit (v, d, e))
+unfoldable pub afterTred : ℕ → ℕ → Vec × Vec × Vec → Answer × Vec × Vec × Vec
+afterTred n limit (v, d, e) = cond (isBad (mark0 n v d e)) (marked 0 0 (mark0 n v d e), v, d, e) (tql2 n limit (v, d, e))
 
 unfoldable pub decomposed : ℕ → ℕ → Vec → Vec × Vec × Vec → Answer × Vec × Vec × Vec
-decomposed n limit a (v, d, e) = marked n limit (tred2 n (columns n a v, d, e))
+decomposed n limit a (v, d, e) = afterTred n limit (tred2 n (columns n a v, d, e))
 
 -- ---- what is lent afterwards
 
--- on 7, 8 and 9 work and result are all +0.0
+-- on 7, 8, 9 and 10 work and result are all +0.0
 abbrev pub cleared : ℕ → Answer → Answer × Vec × Vec
 cleared n x = (x, zeros n, zeros (n + n * n))
 

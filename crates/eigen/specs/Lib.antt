@@ -7,5 +7,6 @@ pub mod Document
 pub mod DocumentLaws
 pub mod Exact
 pub mod ExactLaws
+pub mod Index
 pub mod Result
 pub mod Old

@@ -1,17 +1,18 @@
 -- Where a call is done it has passed every check (`taken-of`), its values ascend, its values and columns are the run's by one permutation, and every number is finite. Laws only.
 use mathlib.Core.Path.{_≡_, refl, sym, ap, _∙_, subst}
+use mathlib.Core.Logic.{_⊎_, inl, inr, ⊎-elim}
 use mathlib.Core.Bool.{Bool, true, false, cond, not}
 use mathlib.Core.List.{_++_}
-use Prim.Native.Nat.{ℕ, zero, suc, _+_, _*_, _-_, _/_, _%_, _<_}
+use Prim.Native.Nat.{ℕ, zero, suc, _+_, _*_, _-_, _/_, _%_, _≤_, _<_}
 use native.Mathlib.Nat.{div-add-mod', mod-lt, div-lt-iff-lt-mul}
 use native.Mathlib.Decide.{decLt}
 use native.Mathlib.Omega.{arith}
 use borrow.Author.Tests.{ltb-false, eqb-true, eqb-false}
-use lib.Dec.{ltb}
+use lib.Dec.{ltb, eqb}
 use lib.Ieee.{nan, lt, le}
 use lib.ListN.{length, List·getD-append}
 use lib.Seq.{getD-append-add}
-use Rattle.grid.specs.Real.{Vec, at}
+use Rattle.grid.specs.Real.{Vec, at, zeros}
 use Rattle.grid.specs.Cell.{at2, entry}
 use Rattle.grid.specs.CellLaws.{cell}
 use Rattle.leaves.specs.Leaf.{isFinite}
@@ -19,25 +20,32 @@ use Rattle.leaves.specs.Compare.{le-of-not}
 use Rattle.leaves.specs.Scan.{firstBadLower}
 use Rattle.leaves.specs.FiniteLaws.{lower-finite}
 use Rattle.answers.specs.Answers.{refused, done, passed, limitGood, lengths, refusal7}
-use Rattle.answers.specs.OutcomeLaws.{lengths-right, limit-right, none-seven}
+use Rattle.answers.specs.OutcomeLaws.{lengths-few, lengths-right, limit-right, none-seven}
+use Rattle.answers.specs.IndexLaws.{lengths-index, refusal7-index, refusal7-most}
 use Rattle.answers.specs.declared.Answer.{Answer}
 use Rattle.ql.specs.Ql.{sorted}
 use Rattle.ql.specs.Document.{Carried, begun}
 use Rattle.ql.specs.Long.{ran-long}
-use Rattle.ql.specs.Told.{Ran, Whole, Told, well, at-mark2, at-mark1, at-limit}
-use Rattle.ql.specs.ToldLaws.{ran-document}
+use Rattle.ql.specs.Told.{list1, list2, Ran, Whole, Told, well, at-mark2, at-mark1, at-limit}
+use Rattle.ql.specs.ToldLaws.{class-above, mark1-sees, ran-document}
 use Rattle.ql.specs.Arranged.{Permutation, Arranged}
 use Rattle.ql.specs.SortLaws.{sorted-arranged, sorted-ascends}
-use Rattle.eigen.specs.Eigen.{entered, eigen}
-use Rattle.eigen.specs.Exact.{Outcome, Taken, reduced, Done, empty, worked, Says, nothing, at-mark0, runs, Some, Columns}
+use Rattle.eigen.specs.Eigen.{decomposed, cleared, given, entered, eigen}
+use Rattle.eigen.specs.Exact.{Outcome, Taken, reduced, list0, Done, empty, worked, Says, nothing, at-mark0, runs, Some, Columns}
 use Rattle.eigen.specs.ExactLaws.{says, says-done, square, diagonal, given-answer}
 
 -- ---- the checks
 
--- a call that is done has passed every check
-pub taken-of : (n limit : ℕ) (a work result : Vec) → eigen n limit a work result .0 .answer ≡ 0 → Taken n limit a work result
+-- a refusal before the run
+pub record Refused (x : Answer) : Type 0 where
+  pub some : 1 ≤ x .answer
+  pub few : x .answer ≤ 7
+  pub none : x .index ≡ 0
+
+-- a call is taken, or refused before the run
+pub checked : (n limit : ℕ) (a work result : Vec) → Taken n limit a work result ⊎ Refused (eigen n limit a work result .0)
 unfolding eigen entered
-taken-of n limit a work result z = one (ltb 256 n) refl (limitGood limit) refl (passed x) refl (passed b) refl _ _ _ z
+checked n limit a work result = one (ltb 256 n) refl (limitGood limit) refl (passed x) refl (passed b) refl
   where
     x : Answer
     x = lengths (length a) (n * n) (length work) n (length result) (n + n * n)
@@ -45,20 +53,34 @@ taken-of n limit a work result z = one (ltb 256 n) refl (limitGood limit) refl (
     b : Answer
     b = refusal7 (firstBadLower n a)
 
+    o : Outcome
+    o = cond (eqb n 0) (cleared n (done 0)) (given n (decomposed n limit a (zeros (n * n), zeros n, zeros n)))
+
+    above : (k : ℕ) → (k ≡ 0 → ⊥) → 1 ≤ k
+    above k d = omega arith
+
     one : (p : Bool) → ltb 256 n ≡ p → (q : Bool) → limitGood limit ≡ q → (r : Bool) → passed x ≡ r → (s : Bool) → passed b ≡ s
-        → (o : Outcome) (v w : Vec) → cond p (refused 1 0, work, result) (cond (not q) (refused 2 0, work, result) (cond r (cond s o (b, v, w)) (x, work, result))) .0 .answer ≡ 0
-        → Taken n limit a work result
-    one true e q f r g s h o v w z = absurd (omega arith)
-    one false e false f r g s h o v w z = absurd (omega arith)
-    one false e true f false g s h o v w z = absurd (eqb-false (x .answer) 0 g z)
-    one false e true f true g false h o v w z = absurd (eqb-false (b .answer) 0 h z)
-    one false e true f true g true h o v w z =
+        → Taken n limit a work result ⊎ Refused (cond p (refused 1 0, work, result) (cond (not q) (refused 2 0, work, result) (cond r (cond s o (cleared n b)) (x, work, result))) .0)
+    one true e q f r g s h = inr (record { some = omega arith; few = omega arith; none = refl })
+    one false e false f r g s h = inr (record { some = omega arith; few = omega arith; none = refl })
+    one false e true f false g s h =
+        inr (record {
+          some = above (x .answer) (eqb-false (x .answer) 0 g);
+          few = omega (arith, lengths-few (length a) (n * n) (length work) n (length result) (n + n * n));
+          none = lengths-index (length a) (n * n) (length work) n (length result) (n + n * n);
+        })
+    one false e true f true g false h = inr (record { some = above (b .answer) (eqb-false (b .answer) 0 h); few = refusal7-most (firstBadLower n a); none = refusal7-index (firstBadLower n a) })
+    one false e true f true g true h =
         let l = lengths-right (length a) (n * n) (length work) n (length result) (n + n * n) (eqb-true (x .answer) 0 g) in
         let m = limit-right limit f in
-        record {
+        inl (record {
           fit = record { small = ltb-false 256 n e; least = m .0; most = m .1; square = l .0; works = l .1; room = l .2 };
           finite = lower-finite n a (l .0) (none-seven (firstBadLower n a) (eqb-true (b .answer) 0 h));
-        }
+        })
+
+-- a call that is done has passed every check
+pub taken-of : (n limit : ℕ) (a work result : Vec) → eigen n limit a work result .0 .answer ≡ 0 → Taken n limit a work result
+taken-of n limit a work result z = ⊎-elim (λ f. f) (λ r. absurd (omega (arith, r .some))) (checked n limit a work result)
 
 -- ---- the result
 
@@ -79,13 +101,13 @@ done-ran0 n limit a c result values vectors z (worked w) r =
 
 told-zero : (n limit : ℕ) (x : Vec × Vec × Vec) (o : Answer × Vec × Vec × Vec) → Told n limit x o → o .0 .answer ≡ 0 → o .0 ≡ done (o .0 .count)
 told-zero n limit x o (well r w) e = refl
-told-zero n limit x o (at-mark2 r w) e = absurd (omega arith)
-told-zero n limit x o (at-mark1 h r t) e = absurd (omega arith)
+told-zero n limit x o (at-mark2 {b = b} {i = i} {y = y} r f) e = absurd (omega (arith, class-above (list2 n y) b i f))
+told-zero n limit x o (at-mark1 {l = l} {b = b} {i = i} {z = z} h r t) e = absurd (omega (arith, class-above (list1 z) b i (mark1-sees n limit l t)))
 told-zero n limit x o (at-limit h r t) e = absurd (omega arith)
 
 says-zero : (n limit : ℕ) (a : Vec) (o : Outcome) → Says n limit a o → o .0 .answer ≡ 0 → o .0 ≡ done (o .0 .count)
 says-zero n limit a o (nothing z) e = refl
-says-zero n limit a o (at-mark0 b) e = absurd (omega arith)
+says-zero n limit a o (at-mark0 {b = b} {i = i} h) e = absurd (omega (arith, class-above (list0 n (reduced n a)) b i (h .seen)))
 says-zero n limit a o (runs {o = f} z s t) e =
     let g = given-answer n f in
     g ∙ told-zero n limit (reduced n a) f t (ap (λ (x : Answer). x .answer) (sym g) ∙ e) ∙ ap (λ (x : Answer). done (x .count)) (sym g)

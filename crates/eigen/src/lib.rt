@@ -5,12 +5,13 @@ ghost use Prim.Native.Nat.{_+_, _*_, _<_, _≤_};
 ghost use lib.ListN.{length, drop};
 ghost use Rattle.grid.specs.Real.{zeros};
 ghost use Rattle.grid.specs.CellLaws.{Sized};
-ghost use Rattle.eigen.specs.Eigen.{copyRow, columns, mirrorRow, rows, mark0, marked, decomposed, given, entered, eigen};
+ghost use Rattle.eigen.specs.Eigen.{copyRow, columns, mirrorRow, rows, mark0, afterTred, decomposed, given, entered, eigen};
 ghost use Rattle.eigen.specs.Lent.{outward, laid};
 use answers::Answer;
 use answers::done;
 use answers::lengths;
 use answers::limit_good;
+use answers::marked;
 use answers::refusal7;
 use answers::refused;
 use grid::LARGEST;
@@ -20,6 +21,8 @@ use grid::entry;
 use grid::fill;
 use grid::put;
 use grid::put1;
+use leaves::Bad;
+use leaves::behind;
 use leaves::first_bad_cell;
 use leaves::first_bad_lower;
 use leaves::is_bad;
@@ -71,22 +74,24 @@ fn rows(n: usize, v: &mut [f64])
 }
 
 // Mark 0.
-fn mark0(n: usize, v: &[f64], d: &[f64], e: &[f64]) -> bool
+fn mark0(n: usize, v: &[f64], d: &[f64], e: &[f64]) -> Bad
     ensures { λ r. ⌜ r ≡ mark0 n (now (v .entry)) (now (d .entry)) (now (e .entry)) ⌝ }
 {
-    if mark1(d, e) {
-        return true;
+    let b = mark1(d, e);
+    if is_bad(b) {
+        return b;
     }
-    is_bad(first_bad_cell(n, v))
+    behind(d.len() + e.len(), first_bad_cell(n, v))
 }
 
 // The run after `tred2`.
-fn marked(n: usize, limit: usize, v: &mut [f64], d: &mut [f64], e: &mut [f64]) -> Answer
+fn after_tred(n: usize, limit: usize, v: &mut [f64], d: &mut [f64], e: &mut [f64]) -> Answer
     requires { ⌜ (0 < n) × (n ≤ 256) × (limit ≤ 60) × Sized n (now v) (now d) (now e) ⌝ }
-    ensures { λ r. ⌜ (r, now (v .exit), now (d .exit), now (e .exit)) ≡ marked n limit (now (v .entry), now (d .entry), now (e .entry)) ⌝ }
+    ensures { λ r. ⌜ (r, now (v .exit), now (d .exit), now (e .exit)) ≡ afterTred n limit (now (v .entry), now (d .entry), now (e .entry)) ⌝ }
 {
-    if mark0(n, v, d, e) {
-        return refused(8, 0);
+    let b = mark0(n, v, d, e);
+    if is_bad(b) {
+        return marked(0, 0, b);
     }
     tql2(n, limit, v, d, e)
 }
@@ -105,7 +110,7 @@ fn decompose(
 {
     columns(n, a, v);
     tred2(n, v, d, e);
-    marked(n, limit, v, d, e)
+    after_tred(n, limit, v, d, e)
 }
 
 // The run, with the vectors row by row where it is done.

@@ -7,9 +7,9 @@ use Rattle.eigen.specs.Eigen.{eigen}
 use Rattle.text.specs.Reading.{Text, good, bad, reading, float}
 use Rattle.text.specs.Writing.{answerText, badText}
 
--- an outcome's text: its three numbers, and of its result the values and the vectors
+-- an outcome's text: its four numbers, and of its result the values and the vectors
 abbrev pub shownOf : ℕ → Answer × Vec × Vec → List ℕ
-shownOf n x = answerText (x .0 .answer) (x .0 .place) (x .0 .count) n (x .2)
+shownOf n x = answerText (x .0 .answer) (x .0 .place) (x .0 .index) (x .0 .count) n (x .2)
 
 -- the call, with work and result at +0.0
 unfoldable pub solved : ℕ → ℕ → Vec → List ℕ

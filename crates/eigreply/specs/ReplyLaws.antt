@@ -1,4 +1,4 @@
--- No answer is longer than 18015 bytes (`reply-most`, `counts`), and what the reader leaves at the front of an array is the matrix (`is-good`). Laws only.
+-- No answer is longer than 18036 bytes (`reply-most`, `counts`), and what the reader leaves at the front of an array is the matrix (`is-good`). Laws only.
 use mathlib.Core.Path.{_≡_, refl, sym, ap, _∙_}
 use mathlib.Core.List.{List, _∷_, map}
 use Prim.Native.Nat.{ℕ, zero, suc, _+_, _*_, _≤_}
@@ -19,24 +19,24 @@ use Rattle.eigreply.specs.Reply.{shownOf, solved, replyOf, reply}
 
 -- ---- sizes
 
-bad-length : length badText ≤ 18015
+bad-length : length badText ≤ 18036
 unfolding badText
 bad-length = omega arith
 
-reply-of-most : (x : Text) → length (replyOf x) ≤ 18015
+reply-of-most : (x : Text) → length (replyOf x) ≤ 18036
 unfolding solved
 reply-of-most (good n limit ws) =
     let x = eigen n limit (map float ws) (zeros n) (zeros (n + n * n)) in
-    answer-most (x .0 .answer) (x .0 .place) (x .0 .count) n (x .2)
+    answer-most (x .0 .answer) (x .0 .place) (x .0 .index) (x .0 .count) n (x .2)
 reply-of-most bad = bad-length
 
 -- no answer is longer than this
-pub reply-most : (t : List ℕ) → length (reply t) ≤ 18015
+pub reply-most : (t : List ℕ) → length (reply t) ≤ 18036
 unfolding reply
 reply-most t = reply-of-most (reading t)
 
 -- a buffer with room for every answer holds the whole of this one at its front
-pub counts : (t out new : List ℕ) (r : ℕ) → 18015 ≤ length out → _≡_ {A = ℕ × List ℕ} (r, new) (written (reply t) out) → (r ≤ length new) × (r ≡ length (take r new))
+pub counts : (t out new : List ℕ) (r : ℕ) → 18036 ≤ length out → _≡_ {A = ℕ × List ℕ} (r, new) (written (reply t) out) → (r ≤ length new) × (r ≡ length (take r new))
 counts t out new r h e =
     let a : r ≡ length (reply t) = ap (λ (s : ℕ × List ℕ). s .0) e in
     let b : length new ≡ length out = ap (λ (s : ℕ × List ℕ). length (s .1)) e ∙ length-sets out 0 (reply t) in

@@ -19,7 +19,7 @@ fn solve(
     ensures { λ r. ⌜ (r, now (out .exit)) ≡ written (shownOf n (eigen n limit (now (matrix .entry)) (now (work .entry)) (now (result .entry)))) (now (out .entry)) ⌝ }
 {
     let a = eigen::symmetric_eigen(n, limit, matrix, work, result);
-    text::write(a.answer, a.place, a.count, n, result, out)
+    text::write(a.answer, a.place, a.index, a.count, n, result, out)
 }
 
 // The same for the matrix that stands at the front of the numbers, with a work array and a result of our own.

@@ -43,6 +43,9 @@ fn refused() {
     file(b"refused_8_mark_0");
     file(b"refused_8_mark_1");
     file(b"refused_8_mark_2");
+    file(b"refused_10_mark_0");
+    file(b"refused_10_mark_1");
+    file(b"refused_10_mark_1_in_e");
     file(b"refused_9");
 }
 

@@ -2,6 +2,7 @@
 -- The work array w holds the factor u, rows by cols, then the factor v, cols by cols, both column by column, then one value for each column. A column is known by
 -- the index in w at which it begins.
 use mathlib.Core.Bool.{Bool, true, false, cond, not, _||_}
+use mathlib.Core.List.{_++_}
 use Prim.Native.Nat.{ℕ, _+_, _*_}
 use lib.Dec.{eqb}
 use lib.Ieee.{Float, neg, lt, le, eq}
@@ -10,9 +11,9 @@ use Rattle.grid.specs.Loop.{upto, rounds}
 use Rattle.grid.specs.Real.{Vec, at, zero64, one64, two64, epsilon, _⊕_, _⊖_, _⊗_, _⊘_}
 use Rattle.leaves.specs.Root.{root}
 use Rattle.leaves.specs.Leaf.{magnitude}
-use Rattle.leaves.specs.Scan.{isBad, firstBad, firstBadCell}
+use Rattle.leaves.specs.Scan.{isBad, firstBad, byRows}
 use Rattle.leaves.specs.declared.Bad.{Bad}
-use Rattle.answers.specs.Answers.{answered, done, passed}
+use Rattle.answers.specs.Answers.{answered, done, passed, marked}
 use Rattle.answers.specs.declared.Answer.{Answer}
 use Rattle.jacobi.specs.declared.Sums.{Sums}
 use Rattle.jacobi.specs.declared.Rotation.{Rotation}
@@ -83,21 +84,21 @@ sweep rows cols w = upto (pairsOf rows cols) 0 cols (false, w)
 
 -- ---- the run
 
-abbrev pub orElse : Bad → Bad → Bad
-orElse a b = cond (isBad a) a b
+-- both factors row by row, u first
+abbrev pub factors : ℕ → ℕ → Vec → Vec
+factors rows cols w = byRows cols (take (rows * cols) w) ++ byRows cols (take (cols * cols) (drop (rows * cols) w))
 
--- mark 1: both factors, u first
+-- mark 1 looks at the factors
 unfoldable pub factorsBad : ℕ → ℕ → Vec → Bad
-factorsBad rows cols w =
-    orElse (firstBadCell cols (take (rows * cols) w)) (firstBadCell cols (take (cols * cols) (drop (rows * cols) w)))
+factorsBad rows cols w = firstBad (factors rows cols w)
 
 -- the run goes on after so many sweeps; where the limit leaves no other, this is refusal 9
 abbrev pub going : ℕ → Answer
-going count = answered 9 count count
+going count = answered 9 count 0 count
 
 -- after sweep number count: mark 1, then settled if no pair turned, then the limit, if no sweep follows
 unfoldable pub verdict : Bad → Bool → ℕ → Answer
-verdict b changed count = cond (isBad b) (answered 8 1 count) (cond changed (going count) (done count))
+verdict b changed count = cond (isBad b) (marked 1 count b) (cond changed (going count) (done count))
 
 unfoldable pub swept : ℕ → ℕ → Answer × Vec → Answer × Vec
 swept rows cols x =
@@ -136,15 +137,19 @@ normalStep rows cols j w =
 unfoldable pub normalised : ℕ → ℕ → Vec → Vec
 normalised rows cols w = upto (normalStep rows cols) 0 cols w
 
--- mark 2: the values, then the factors as at mark 1
+-- the values, then the factors as at mark 1
+abbrev pub valuesFactors : ℕ → ℕ → Vec → Vec
+valuesFactors rows cols w = take cols (drop (valueAt rows cols 0) w) ++ factors rows cols w
+
+-- mark 2 looks at all of them
 unfoldable pub allBad : ℕ → ℕ → Vec → Bad
-allBad rows cols w = orElse (firstBad (take cols (drop (valueAt rows cols 0) w))) (factorsBad rows cols w)
+allBad rows cols w = firstBad (valuesFactors rows cols w)
 
 -- where the sweeps settled
 unfoldable pub finished : ℕ → ℕ → Answer × Vec → Answer × Vec
 finished rows cols x =
     let w = normalised rows cols (x .1) in
-    (cond (isBad (allBad rows cols w)) (answered 8 2 (x .0 .count)) (x .0), w)
+    (marked 2 (x .0 .count) (allBad rows cols w), w)
 
 unfoldable pub jacobi : ℕ → ℕ → ℕ → Vec → Answer × Vec
 jacobi rows cols limit w =

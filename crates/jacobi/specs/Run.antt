@@ -5,19 +5,20 @@ use Prim.Native.Nat.{ℕ, _+_}
 use Rattle.grid.specs.Real.{Vec}
 use Rattle.leaves.specs.Scan.{isBad}
 use Rattle.leaves.specs.declared.Bad.{Bad}
-use Rattle.answers.specs.Answers.{answered, done}
+use Rattle.leaves.specs.declared.Bad.the-variants.{At, Nowhere}
+use Rattle.answers.specs.Answers.{done, marked}
 use Rattle.answers.specs.declared.Answer.{Answer}
-use Rattle.jacobi.specs.Jacobi.{verdict, swept}
+use Rattle.jacobi.specs.Jacobi.{going, verdict, swept}
 
 -- the count is the sweeps run
 pub verdict-count : (b : Bad) (changed : Bool) (count : ℕ) → verdict b changed count .count ≡ count
 unfolding verdict
-verdict-count b changed count = go (isBad b) changed
+verdict-count b changed count = go b changed
   where
-    go : (x y : Bool) → cond x (answered 8 1 count) (cond y (answered 9 count count) (done count)) .count ≡ count
-    go true y = refl
-    go false true = refl
-    go false false = refl
+    go : (b : Bad) (y : Bool) → cond (isBad b) (marked 1 count b) (cond y (going count) (done count)) .count ≡ count
+    go (At i c) y = refl
+    go Nowhere true = refl
+    go Nowhere false = refl
 
 pub swept-count : (rows cols : ℕ) (x : Answer × Vec) → swept rows cols x .0 .count ≡ x .0 .count + 1
 unfolding swept

@@ -9,10 +9,12 @@ ghost use Rattle.jacobi.specs.Jacobi.{gram, skipped, signOf, rotationOf,
 use answers::Answer;
 use answers::answered;
 use answers::done;
+use answers::marked;
 use grid::EPSILON;
 use grid::at1;
 use grid::put1;
 use leaves::Bad;
+use leaves::behind;
 use leaves::first_bad;
 use leaves::first_bad_cell;
 use leaves::is_bad;
@@ -132,7 +134,7 @@ fn sweep(rows: usize, cols: usize, w: &mut [f64]) -> bool
     changed
 }
 
-// Mark 1: the first number of the factors that is not finite, u first.
+// Mark 1: the first number of the factors that is not finite, row by row, u first.
 fn factors_bad(rows: usize, cols: usize, w: &[f64]) -> Bad
     requires { ⌜ Sized rows cols (now w) ⌝ }
     ensures { λ b. ⌜ b ≡ factorsBad rows cols (now (w .entry)) ⌝ }
@@ -142,14 +144,14 @@ fn factors_bad(rows: usize, cols: usize, w: &[f64]) -> Bad
     if is_bad(b) {
         return b;
     }
-    first_bad_cell(cols, &w[v..v + cols * cols])
+    behind(v, first_bad_cell(cols, &w[v..v + cols * cols]))
 }
 
 // The run goes on after so many sweeps; where the limit leaves no other, this is refusal 9.
 fn going(count: usize) -> Answer
     ensures { λ r. ⌜ r ≡ going count ⌝ }
 {
-    answered(9, count, count)
+    answered(9, count, 0, count)
 }
 
 // What a sweep ends with.
@@ -157,7 +159,7 @@ fn verdict(b: Bad, changed: bool, count: usize) -> Answer
     ensures { λ r. ⌜ r ≡ verdict b changed count ⌝ }
 {
     if is_bad(b) {
-        return answered(8, 1, count);
+        return marked(1, count, b);
     }
     if changed {
         return going(count);
@@ -244,7 +246,7 @@ fn all_bad(rows: usize, cols: usize, w: &[f64]) -> Bad
     if is_bad(b) {
         return b;
     }
-    factors_bad(rows, cols, w)
+    behind(cols, factors_bad(rows, cols, w))
 }
 
 // The values, where the sweeps settled.
@@ -253,10 +255,7 @@ fn finish(rows: usize, cols: usize, run: Answer, w: &mut [f64]) -> Answer
     ensures { λ r. ⌜ (r, now (w .exit)) ≡ finished rows cols (run, now (w .entry)) ⌝ }
 {
     normalise(rows, cols, w);
-    if is_bad(all_bad(rows, cols, w)) {
-        return answered(8, 2, run.count);
-    }
-    run
+    marked(2, run.count, all_bad(rows, cols, w))
 }
 
 pub fn jacobi(rows: usize, cols: usize, limit: usize, w: &mut [f64]) -> Answer

@@ -9,3 +9,4 @@ mod Nearest
 mod Neighbours
 mod Sign
 mod Search
+mod Class

@@ -1,30 +1,41 @@
 -- The steps of a scan: where it ends, and its counters.
 use mathlib.Core.Path.{_≡_, refl, sym, ap, _∙_}
-use mathlib.Core.Bool.{Bool, true, false}
+use mathlib.Core.Bool.{Bool, true, false, not}
 use Prim.Native.Nat.{ℕ, zero, suc, _+_, _*_, _/_, _%_, _<_, _≤_}
 use native.Mathlib.Nat.{mod-lt, mod-zero, div-zero, zero-mod, zero-div, mod-le, div-le-self, div-lt-iff-lt-mul, mul-comm, div-add-mod', mul-add-div-right, mul-add-mod-self-right, div-eq-of-lt, mod-eq-of-lt, add-mul, add-zero}
 use native.Mathlib.Omega.{arith}
 use lib.Dec.{eqb}
 use borrow.Author.Tests.{lt-ltb, le-ltb, eqb-true, eqb-false, ne-eqb}
 use Rattle.grid.specs.Loop.{first}
-use Rattle.grid.specs.LoopLaws.{first-here, first-none}
+use Rattle.grid.specs.LoopLaws.{first-here, first-next, first-none}
 use Rattle.grid.specs.Real.{Vec}
 use Rattle.grid.specs.CellLaws.{cell}
-use Rattle.leaves.specs.Scan.{found, placeOf, cellBad, firstBadOf}
-use Rattle.leaves.specs.ScanLaws.{after}
+use lib.Ieee.{Float}
+use Rattle.leaves.specs.Leaf.{isFinite}
+use Rattle.leaves.specs.Scan.{classOf, scan, placeOf, cellAt}
+use Rattle.leaves.specs.ScanLaws.{after, firstBadOf}
 use Rattle.leaves.specs.declared.Bad.the-variants.{At, Nowhere}
 use Rattle.leaves.specs.declared.Place.{Place}
 
-pub found-here : (p : ℕ → Bool) (k n : ℕ) {r : ℕ} → k < n → p k ≡ true → first p k n ≡ r → At k ≡ found r n
-found-here p k n h e g = rw (← first-here p k n h e g, lt-ltb k n h)
+-- the search so far: what is left to look at gives what the whole gives
+abbrev pub Left : (ℕ → Float) → ℕ → ℕ → Type 0
+Left x k n = first (λ j. not (isFinite (x j))) k n ≡ first (λ j. not (isFinite (x j))) 0 n
 
-pub found-none : (p : ℕ → Bool) (k n : ℕ) {r : ℕ} → n ≤ k → first p k n ≡ r → Nowhere ≡ found r n
-found-none p k n h g = rw (← first-none p k n h g, le-ltb k n h)
+pub left-more : (x : ℕ → Float) (k n : ℕ) → k < n → not (isFinite (x k)) ≡ false → Left x k n → Left x (k + 1) n
+left-more x k n h e g = first-next (λ j. not (isFinite (x j))) k n h e g
+
+pub found-here : (x : ℕ → Float) (k n : ℕ) {c : ℕ} → k < n → not (isFinite (x k)) ≡ true → c ≡ classOf (x k) → Left x k n → At k c ≡ scan x n
+unfolding scan
+found-here x k n h e s g = rw (← first-here (λ j. not (isFinite (x j))) k n h e g, lt-ltb k n h, s)
+
+pub found-none : (x : ℕ → Float) (k n : ℕ) → n ≤ k → Left x k n → Nowhere ≡ scan x n
+unfolding scan
+found-none x k n h g = rw (← first-none (λ j. not (isFinite (x j))) k n h g, le-ltb k n h)
 
 -- no columns, nothing found
 pub no-column : (rows cols : ℕ) (v : Vec) → cols ≡ 0 → Nowhere ≡ firstBadOf rows cols v
 unfolding firstBadOf
-no-column rows cols v e = found-none (cellBad rows cols v) 0 (rows * cols) (rw e (omega arith)) refl
+no-column rows cols v e = found-none (cellAt rows cols v) 0 (rows * cols) (rw e (omega arith)) refl
 
 -- ---- the counters: number q * n + j stands in row q and column j
 

@@ -4,7 +4,8 @@ pub mod Parts
 pub mod Nearest
 pub mod Leaf
 pub mod Scan
-pub mod ScanLaws
 pub mod Finite
+pub mod ScanLaws
+pub mod Both
 pub mod FiniteLaws
 pub mod Compare

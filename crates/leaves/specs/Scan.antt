@@ -1,51 +1,58 @@
--- The first number that is not finite: of a list, of a lower triangle, of a matrix. Definitions only.
-use mathlib.Core.Bool.{Bool, true, false, cond, not, _&&_}
+-- The first number that is not finite, and what it is: of numbers, of a list, of a lower triangle; and a matrix as a list. Definitions only.
+use mathlib.Core.Bool.{Bool, true, false, cond, not}
 use Prim.Native.Nat.{ℕ, _*_, _/_, _%_}
 use lib.Dec.{leb, ltb}
-use lib.Ieee.{Float}
+use lib.Ieee.{Float, nan, inf, fin}
 use lib.ListN.{length}
 use Rattle.grid.specs.Loop.{first}
-use Rattle.grid.specs.Real.{Vec, at}
+use Rattle.grid.specs.Real.{Vec, at, zero64}
 use Rattle.grid.specs.Cell.{at2}
+use Rattle.grid.specs.Table.{table}
 use Rattle.leaves.specs.Leaf.{isFinite}
 use Rattle.leaves.specs.declared.Bad.{Bad}
 use Rattle.leaves.specs.declared.Bad.the-variants.{At, Nowhere}
 use Rattle.leaves.specs.declared.Place.{Place}
 
+-- the class of a number that is not finite, by the number that a mark answers: 8 infinite, 10 NaN
+unfoldable pub classOf : Float → ℕ
+classOf nan = 10
+classOf (inf s) = 8
+classOf (fin s m e) = 8
+
 abbrev pub isBad : Bad → Bool
-isBad (At k) = true
+isBad (At k c) = true
 isBad Nowhere = false
 
--- a search below n ended at k
-abbrev pub found : ℕ → ℕ → Bad
-found k n = cond (ltb k n) (At k) Nowhere
+-- a search among n numbers x ended at k
+abbrev pub found : (ℕ → Float) → ℕ → ℕ → Bad
+found x k n = cond (ltb k n) (At k (classOf (x k))) Nowhere
 
-abbrev pub notFinite : Vec → ℕ → Bool
-notFinite d k = not (isFinite (at d k))
+-- the first of n numbers x that is not finite: its index and its class
+unfoldable pub scan : (ℕ → Float) → ℕ → Bad
+scan x n = found x (first (λ k. not (isFinite (x k))) 0 n) n
 
-unfoldable pub firstBad : Vec → Bad
-firstBad d = found (first (notFinite d) 0 (length d)) (length d)
+abbrev pub firstBad : Vec → Bad
+firstBad d = scan (at d) (length d)
 
 -- the row and the column of number k where n are in a row; where n is 0 all are in row 0
 unfoldable pub placeOf : ℕ → ℕ → Place
 placeOf n k = record { i = k / n; j = k % n }
 
--- on or below the diagonal, and not finite
-unfoldable pub badLower : Place → Float → Bool
-badLower p x = leb (p .j) (p .i) && not (isFinite x)
+-- what is read of the number x at p: what stands above the diagonal counts as 0
+unfoldable pub lowerOf : Place → Float → Float
+lowerOf p x = cond (leb (p .j) (p .i)) x zero64
 
-abbrev pub lowerBad : ℕ → Vec → ℕ → Bool
-lowerBad n a k = badLower (placeOf n k) (at a k)
+-- number k of the matrix a, which stands row by row with n in a row
+abbrev pub lowerAt : ℕ → Vec → ℕ → Float
+lowerAt n a k = lowerOf (placeOf n k) (at a k)
 
 unfoldable pub firstBadLower : ℕ → Vec → Bad
-firstBadLower n a = found (first (lowerBad n a) 0 (length a)) (length a)
+firstBadLower n a = scan (lowerAt n a) (length a)
 
 -- number k, counted row by row, of the worked-on matrix v of that many rows and columns
-abbrev pub cellBad : ℕ → ℕ → Vec → ℕ → Bool
-cellBad rows cols v k = not (isFinite (at2 v rows (placeOf cols k .i) (placeOf cols k .j)))
+abbrev pub cellAt : ℕ → ℕ → Vec → ℕ → Float
+cellAt rows cols v k = at2 v rows (placeOf cols k .i) (placeOf cols k .j)
 
-unfoldable pub firstBadOf : ℕ → ℕ → Vec → Bad
-firstBadOf rows cols v = found (first (cellBad rows cols v) 0 (rows * cols)) (rows * cols)
-
-unfoldable pub firstBadCell : ℕ → Vec → Bad
-firstBadCell cols v = firstBadOf (length v / cols) cols v
+-- the worked-on matrix v of that many columns, row by row
+unfoldable pub byRows : ℕ → Vec → Vec
+byRows cols v = table (cellAt (length v / cols) cols v) (length v / cols * cols)

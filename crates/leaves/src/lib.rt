@@ -11,13 +11,13 @@ ghost use Rattle.leaves.specs.Root.{whole, root};
 ghost use Rattle.leaves.specs.Parts.{sig, exp, even, half, rootBits};
 ghost use Rattle.leaves.specs.Nearest.{Nearest};
 ghost use Rattle.leaves.specs.Leaf.{magnitude, larger, isFinite, hypotOf, hypot};
-ghost use Rattle.leaves.specs.Scan.{isBad, firstBad, badLower, firstBadLower, firstBadOf, firstBadCell};
-ghost use Rattle.leaves.specs.ScanLaws.{after};
+ghost use Rattle.leaves.specs.Scan.{classOf, isBad, firstBad, lowerOf, firstBadLower, byRows};
+ghost use Rattle.leaves.specs.ScanLaws.{after, firstBadOf, behind, Room};
 use grid::at1;
 
-// What a scan found: the index of the first number that is not finite.
+// What a scan found: the index of the first number that is not finite, and its class, 8 or 10.
 pub enum Bad {
-    At(usize),
+    At(usize, usize),
     Nowhere,
 }
 
@@ -242,8 +242,26 @@ pub fn is_bad(b: Bad) -> bool
     ensures { λ r. ⌜ r ≡ isBad b ⌝ }
 {
     match b {
-        Bad::At(_) => true,
+        Bad::At(_, _) => true,
         Bad::Nowhere => false,
+    }
+}
+
+// What a mark answers for a number that is not finite: 8 where it is infinite, 10 where it is NaN.
+pub fn class_of(x: f64) -> usize
+    ensures { λ r. ⌜ r ≡ classOf x ⌝ }
+{
+    if x == x { 8 } else { 10 }
+}
+
+// What was found, counted behind so many other numbers.
+pub fn behind(before: usize, b: Bad) -> Bad
+    requires { ⌜ Room before b ⌝ }
+    ensures { λ r. ⌜ r ≡ behind before b ⌝ }
+{
+    match b {
+        Bad::At(i, c) => Bad::At(before + i, c),
+        Bad::Nowhere => Bad::Nowhere,
     }
 }
 
@@ -252,8 +270,9 @@ pub fn first_bad(d: &[f64]) -> Bad
     ensures { λ r. ⌜ r ≡ firstBad (now (d .entry)) ⌝ }
 {
     for k in 0..d.len() {
-        if !is_finite(at1(d, k)) {
-            return Bad::At(k);
+        let x = at1(d, k);
+        if !is_finite(x) {
+            return Bad::At(k, class_of(x));
         }
     }
     Bad::Nowhere
@@ -270,14 +289,14 @@ fn after(n: usize, p: Place) -> Place
     Place { i: p.i, j: p.j + 1 }
 }
 
-// The number x at p is on or below the diagonal and is not finite.
-fn bad_lower(p: Place, x: f64) -> bool
-    ensures { λ r. ⌜ r ≡ badLower p x ⌝ }
+// What is read of the number x at p: what stands above the diagonal counts as 0.
+fn lower_of(p: Place, x: f64) -> f64
+    ensures { λ r. ⌜ r ≡ lowerOf p x ⌝ }
 {
     if p.j <= p.i {
-        return !is_finite(x);
+        return x;
     }
-    false
+    0.0
 }
 
 // The first number that is not finite on and below the diagonal of the matrix a, which stands row by row with n in a row.
@@ -286,8 +305,9 @@ pub fn first_bad_lower(n: usize, a: &[f64]) -> Bad
 {
     let mut p = Place { i: 0, j: 0 };
     for k in 0..a.len() {
-        if bad_lower(p, at1(a, k)) {
-            return Bad::At(k);
+        let x = lower_of(p, at1(a, k));
+        if !is_finite(x) {
+            return Bad::At(k, class_of(x));
         }
         p = after(n, p);
     }
@@ -301,8 +321,9 @@ fn first_bad_of(rows: usize, cols: usize, v: &[f64]) -> Bad
 {
     let mut p = Place { i: 0, j: 0 };
     for k in 0..rows * cols {
-        if !is_finite(at1(v, p.j * rows + p.i)) {
-            return Bad::At(k);
+        let x = at1(v, p.j * rows + p.i);
+        if !is_finite(x) {
+            return Bad::At(k, class_of(x));
         }
         p = after(cols, p);
     }
@@ -311,7 +332,7 @@ fn first_bad_of(rows: usize, cols: usize, v: &[f64]) -> Bad
 
 // The same of a matrix with that many columns, and as many rows as fill its length.
 pub fn first_bad_cell(cols: usize, v: &[f64]) -> Bad
-    ensures { λ r. ⌜ r ≡ firstBadCell cols (now (v .entry)) ⌝ }
+    ensures { λ r. ⌜ r ≡ firstBad (byRows cols (now (v .entry))) ⌝ }
 {
     if cols == 0 {
         return Bad::Nowhere;

@@ -1,6 +1,7 @@
 -- One QL pass of document 000's `tql2`, operation for operation, and what is looked at after it. Definitions only.
 -- v is the n by n matrix, column by column. What a step changes comes last, in the order v, d, e, and in front of them the record or number that goes with it.
-use mathlib.Core.Bool.{Bool, cond, not, _||_}
+use mathlib.Core.Bool.{Bool, cond}
+use mathlib.Core.List.{_++_}
 use Prim.Native.Nat.{ℕ, _+_}
 use lib.Ieee.{Float, neg, lt, le}
 use lib.ListN.{set}
@@ -8,7 +9,10 @@ use Rattle.grid.specs.Loop.{upto, fall}
 use Rattle.grid.specs.Real.{Vec, zero64, one64, two64, epsilon, at, _⊕_, _⊖_, _⊗_, _⊘_}
 use Rattle.grid.specs.Cell.{at2, put2}
 use Rattle.leaves.specs.Leaf.{magnitude, hypot}
-use Rattle.leaves.specs.Scan.{firstBad, isBad}
+use Rattle.leaves.specs.Scan.{firstBad}
+use Rattle.leaves.specs.declared.Bad.{Bad}
+use Rattle.leaves.specs.declared.Bad.the-variants.{At, Nowhere}
+use Rattle.pass.specs.declared.Reason.{Reason}
 use Rattle.pass.specs.declared.Run.{Run}
 use Rattle.pass.specs.declared.Spin.{Spin}
 
@@ -94,15 +98,12 @@ transformed n l m (v, d, e) =
 
 -- ---- the pass of a run
 
--- why the passes at an l stop, `stop` in the run's record: passes are to be run; l has settled; a number is not finite; the limit is used up
+-- why the passes at an l stop, `stop` in the run's record: passes are to be run; l has settled; the limit is used up; or the class of the number that mark 1 saw
 abbrev pub going : ℕ
 going = 0
 
 abbrev pub converged : ℕ
 converged = 1
-
-abbrev pub notFinite : ℕ
-notFinite = 8
 
 abbrev pub limitUsed : ℕ
 limitUsed = 9
@@ -111,17 +112,27 @@ limitUsed = 9
 abbrev pub tiny : Vec → Float → ℕ → Bool
 tiny e tst1 k = le (magnitude (at e k)) (epsilon ⊗ tst1)
 
--- mark 1: a number of d or of e is not finite
-unfoldable pub mark1 : Vec → Vec → Bool
-mark1 d e = isBad (firstBad d) || isBad (firstBad e)
+-- mark 1 looks at d, then at e: the first number that is not finite
+unfoldable pub mark1 : Vec → Vec → Bad
+mark1 d e = firstBad (d ++ e)
 
--- after a pass at l: mark 1, then document 000's convergence test
-unfoldable pub verdict : ℕ → Float → Vec → Vec → ℕ
-verdict l tst1 d e = cond (mark1 d e) notFinite (cond (tiny e tst1 l) converged going)
+-- document 000's convergence test
+unfoldable pub settled : ℕ → Float → Vec → ℕ
+settled l tst1 e = cond (tiny e tst1 l) converged going
+
+-- the class and the index of what a mark saw, or else another reason to stop
+abbrev pub judged : Bad → ℕ → Reason
+judged (At k c) stop = record { stop = c; index = k }
+judged Nowhere stop = record { stop = stop; index = 0 }
+
+-- after a pass at l: mark 1, then the convergence test
+unfoldable pub verdict : ℕ → Float → Vec → Vec → Reason
+verdict l tst1 d e = judged (mark1 d e) (settled l tst1 e)
 
 -- a run after one pass more
-abbrev pub afterPass : Run → Float → ℕ → Run
-afterPass r h stop = record { l = r .l; m = r .m; f = r .f ⊕ h; tst1 = r .tst1; passes = r .passes + 1; count = r .count + 1; stop = stop }
+abbrev pub afterPass : Run → Float → Reason → Run
+afterPass r h t =
+    record { l = r .l; m = r .m; f = r .f ⊕ h; tst1 = r .tst1; passes = r .passes + 1; count = r .count + 1; stop = t .stop; index = t .index }
 
 unfoldable pub pass : ℕ → Run × Vec × Vec × Vec → Run × Vec × Vec × Vec
 pass n (r, v, d, e) =

@@ -3,19 +3,21 @@ ghost use mathlib.Core.Path.{_≡_};
 ghost use Prim.Native.Nat.{_+_, _*_, _<_, _≤_, _^_};
 ghost use lib.ListN.{length};
 ghost use Rattle.grid.specs.CellLaws.{Sized};
-ghost use Rattle.pass.specs.Pass.{pythag, signed, shift, lessened, rotated, spin, spins, landed, transformed, mark1, verdict, pass};
+ghost use Rattle.pass.specs.Pass.{pythag, signed, shift, lessened, rotated, spin, spins, landed, transformed, mark1, settled, judged, verdict, pass};
 use grid::EPSILON;
 use grid::at;
 use grid::at1;
 use grid::put;
 use grid::put1;
+use leaves::Bad;
+use leaves::behind;
 use leaves::first_bad;
 use leaves::hypot;
 use leaves::is_bad;
 use leaves::magnitude;
 
-// A run of `tql2` at l. stop is 0 while passes are to be run at l, 1 where l has settled, 8 where a number is not
-// finite, 9 where the limit is used up.
+// A run of `tql2` at l. stop is 0 while passes are to be run at l, 1 where l has settled, 8 or 10 where a number is not
+// finite, which index tells, 9 where the limit is used up.
 pub struct Run {
     pub l: usize,
     pub m: usize,
@@ -24,6 +26,13 @@ pub struct Run {
     pub passes: usize,
     pub count: usize,
     pub stop: usize,
+    pub index: usize,
+}
+
+// Why the passes stop: a run's stop and index.
+pub struct Reason {
+    pub stop: usize,
+    pub index: usize,
 }
 
 // What one turn of a pass hands to the next.
@@ -176,27 +185,43 @@ fn transform(n: usize, l: usize, m: usize, v: &mut [f64], d: &mut [f64], e: &mut
 }
 
 // Mark 1.
-pub fn mark1(d: &[f64], e: &[f64]) -> bool
+pub fn mark1(d: &[f64], e: &[f64]) -> Bad
     ensures { λ r. ⌜ r ≡ mark1 (now (d .entry)) (now (e .entry)) ⌝ }
 {
-    if is_bad(first_bad(d)) {
-        return true;
+    let b = first_bad(d);
+    if is_bad(b) {
+        return b;
     }
-    is_bad(first_bad(e))
+    behind(d.len(), first_bad(e))
 }
 
-// What stops the passes at l: mark 1 (8), then document 000's convergence test (1); else they go on (0).
-fn verdict(l: usize, tst1: f64, d: &[f64], e: &[f64]) -> usize
+// Document 000's convergence test: 1 where l has settled, else 0.
+fn settled(l: usize, tst1: f64, e: &[f64]) -> usize
     requires { ⌜ l < length (now e) ⌝ }
-    ensures { λ r. ⌜ r ≡ verdict l tst1 (now (d .entry)) (now (e .entry)) ⌝ }
+    ensures { λ r. ⌜ r ≡ settled l tst1 (now (e .entry)) ⌝ }
 {
-    if mark1(d, e) {
-        return 8;
-    }
     if magnitude(at1(e, l)) <= EPSILON * tst1 {
         return 1;
     }
     0
+}
+
+// The class and the index of what a mark saw, or else another reason to stop.
+fn judged(b: Bad, stop: usize) -> Reason
+    ensures { λ r. ⌜ r ≡ judged b stop ⌝ }
+{
+    match b {
+        Bad::At(k, c) => Reason { stop: c, index: k },
+        Bad::Nowhere => Reason { stop, index: 0 },
+    }
+}
+
+// What stops the passes at l: mark 1 (8 or 10), then the convergence test (1); else they go on (0).
+fn verdict(l: usize, tst1: f64, d: &[f64], e: &[f64]) -> Reason
+    requires { ⌜ l < length (now e) ⌝ }
+    ensures { λ r. ⌜ r ≡ verdict l tst1 (now (d .entry)) (now (e .entry)) ⌝ }
+{
+    judged(mark1(d, e), settled(l, tst1, e))
 }
 
 // One QL pass.
@@ -205,7 +230,7 @@ pub fn pass(n: usize, r: Run, v: &mut [f64], d: &mut [f64], e: &mut [f64]) -> Ru
     ensures { λ q. ⌜ (q, now (v .exit), now (d .exit), now (e .exit)) ≡ pass n (r, now (v .entry), now (d .entry), now (e .entry)) ⌝ }
 {
     let h = transform(n, r.l, r.m, v, d, e);
-    let stop = verdict(r.l, r.tst1, d, e);
+    let t = verdict(r.l, r.tst1, d, e);
     Run {
         l: r.l,
         m: r.m,
@@ -213,6 +238,7 @@ pub fn pass(n: usize, r: Run, v: &mut [f64], d: &mut [f64], e: &mut [f64]) -> Ru
         tst1: r.tst1,
         passes: r.passes + 1,
         count: r.count + 1,
-        stop,
+        stop: t.stop,
+        index: t.index,
     }
 }

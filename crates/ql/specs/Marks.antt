@@ -1,6 +1,8 @@
 -- The outcome of tql2 is the one that is told (`told`), so marks and limit only stop document 000's own (`tql2-document`); and at each l that a run comes to, document 000's test holds at n - 1 (`test-at-last`). Laws only.
 use mathlib.Core.Path.{_≡_, refl, sym, ap, _∙_, subst}
-use mathlib.Core.Bool.{Bool, true, false, cond, not, true≢false}
+use mathlib.Core.Logic.{_⊎_, ⊎-elim, inl, inr}
+use mathlib.Core.Bool.{Bool, true, false, cond, not}
+use mathlib.Core.List.{_++_}
 use Prim.Native.Nat.{ℕ, zero, suc, _+_, _*_, _-_, _≤_, _<_}
 use native.Mathlib.Numerals.{add-one}
 use native.Mathlib.Decide.{ℕ-discrete}
@@ -14,18 +16,23 @@ use Rattle.grid.specs.Loop.{rounds, upto}
 use Rattle.grid.specs.LoopLaws.{upto-both}
 use Rattle.grid.specs.Real.{Vec, zero64, at, _⊕_}
 use Rattle.leaves.specs.Leaf.{magnitude, larger}
-use Rattle.leaves.specs.Scan.{firstBad, firstBadCell, isBad}
-use Rattle.leaves.specs.FiniteLaws.{scan-finite, finite-scan, or-false, cells-finite, finite-cells}
+use Rattle.leaves.specs.Scan.{byRows, isBad}
+use Rattle.leaves.specs.ScanLaws.{firstBad-none, scan-first}
+use Rattle.leaves.specs.FiniteLaws.{finite-both, cells-finite}
+use Rattle.leaves.specs.declared.Bad.{Bad}
+use Rattle.leaves.specs.declared.Bad.the-variants.{At, Nowhere}
 use Rattle.answers.specs.Answers.{answered, done}
+use Rattle.answers.specs.Answers as answers
 use Rattle.answers.specs.declared.Answer.{Answer}
-use Rattle.pass.specs.Pass.{transformed, tiny, mark1, verdict, pass}
+use Rattle.pass.specs.Pass as pa
+use Rattle.pass.specs.Pass.{transformed, tiny, mark1, judged, verdict, pass}
 use Rattle.ql.specs.Ql.{State, fresh, movedUp, opened, ended, iterated, stopping, released, closed, stage, turn, run, mark2, sorted, finished, tql2}
 use Rattle.ql.specs.Bounds.{split-below}
 use Rattle.ql.specs.Last.{plus, nought, plus-zero, nought-zero, plus-larger, tiny-last, split-is, transformed-ended, moved-long, moved-last}
 use Rattle.ql.specs.Document.{Carried, begun, grown, searched, settled, valued, Tql2}
 use Rattle.ql.specs.Long.{ran-long}
-use Rattle.ql.specs.Told.{Sound, End, here, bad, used, Looped, no-more, stop, once, again, Turned, at-once, by-passes, by-mark, by-limit, Ran, none, more, Whole, Told, well, at-mark2, at-mark1, at-limit}
-use Rattle.ql.specs.ToldLaws.{Ended, code, ran-document, told-document}
+use Rattle.ql.specs.Told.{Sound, FirstIn, list1, list2, End, here, bad, used, Looped, no-more, stop, once, again, Turned, at-once, by-passes, by-mark, by-limit, Ran, none, more, Whole, Told, well, at-mark2, at-mark1, at-limit}
+use Rattle.ql.specs.ToldLaws.{Ended, code, pointer, first-class, looped-sees, ran-document, told-document}
 
 -- what document 000 carries, of a run's state
 abbrev carried : State → Carried
@@ -39,24 +46,28 @@ record Fine (n : ℕ) (x : State) : Type 0 where
 
 -- ---- one pass
 
-mark1-sound : (x : Carried) → mark1 (x .d) (x .e) ≡ false → Sound x
+mark1-sound : (x : Carried) → mark1 (x .d) (x .e) ≡ Nowhere → Sound x
 unfolding mark1
 mark1-sound x h =
-    let o = or-false (isBad (firstBad (x .d))) (isBad (firstBad (x .e))) h in
-    record { values = scan-finite (x .d) (o .0); beside = scan-finite (x .e) (o .1) }
+    let o = finite-both (x .d) (x .e) (firstBad-none (list1 x) h) in
+    record { values = o .0; beside = o .1 }
 
-sound-mark1 : (x : Carried) → Sound x → mark1 (x .d) (x .e) ≡ false
+mark1-first : (x : Carried) (b i : ℕ) → mark1 (x .d) (x .e) ≡ At i b → FirstIn (list1 x) b i
 unfolding mark1
-sound-mark1 x s = rw (finite-scan (x .d) (s .values), finite-scan (x .e) (s .beside))
+mark1-first x b i h = scan-first (at (list1 x)) (length (list1 x)) i b h
+
+-- a mark stopped the run
+Stopped : State → Type 0
+Stopped x = (x .0 .stop ≡ 8) ⊎ (x .0 .stop ≡ 10)
 
 -- what one pass comes to
 data Passed (n : ℕ) (x y : State) : Type 0 where
-  sees : y .0 .stop ≡ 8 → (Sound (carried y) → ⊥) → Passed n x y
-  settles : y .0 .stop ≡ 1 → Sound (carried y) → settled (x .0 .l) (carried y) ≡ true → Fine n y → Passed n x y
-  on : y .0 .stop ≡ 0 → Sound (carried y) → settled (x .0 .l) (carried y) ≡ false → Fine n y → Passed n x y
+  sees : FirstIn (list1 (carried y)) (y .0 .stop) (y .0 .index) → Passed n x y
+  settles : y .0 .stop ≡ 1 → y .0 .index ≡ 0 → Sound (carried y) → settled (x .0 .l) (carried y) ≡ true → Fine n y → Passed n x y
+  on : y .0 .stop ≡ 0 → y .0 .index ≡ 0 → Sound (carried y) → settled (x .0 .l) (carried y) ≡ false → Fine n y → Passed n x y
 
 one-pass : (n : ℕ) (x : State) → x .0 .l < x .0 .m → x .0 .m < n → Fine n x → Passed n x (pass n x)
-unfolding pass verdict
+unfolding pass verdict pa.settled
 one-pass n x h g p = go (mark1 (y .2) (y .3)) refl (tiny (y .3) (x .0 .tst1) (x .0 .l)) refl
   where
     y : Float × Vec × Vec × Vec
@@ -71,10 +82,20 @@ one-pass n x h g p = go (mark1 (y .2) (y .3)) refl (tiny (y .3) (x .0 .tst1) (x 
           grows = p .grows;
         }
 
-    go : (a : Bool) → mark1 (y .2) (y .3) ≡ a → (b : Bool) → tiny (y .3) (x .0 .tst1) (x .0 .l) ≡ b → Passed n x (pass n x)
-    go true q b s = sees (λ i. cond (q i) 8 (cond (tiny (y .3) (x .0 .tst1) (x .0 .l)) 1 0)) (λ f. true≢false (sym q ∙ sound-mark1 (carried (pass n x)) f))
-    go false q true s = let f = mark1-sound (carried (pass n x)) q in settles (λ i. cond (q i) 8 (cond (s i) 1 0)) f s (fine f)
-    go false q false s = let f = mark1-sound (carried (pass n x)) q in on (λ i. cond (q i) 8 (cond (s i) 1 0)) f s (fine f)
+    -- what the pass leaves, by mark 1 and the test
+    left : Bad → Bool → ℕ × ℕ
+    left a b = (judged a (cond b 1 0) .stop, judged a (cond b 1 0) .index)
+
+    go : (a : Bad) → mark1 (y .2) (y .3) ≡ a → (b : Bool) → tiny (y .3) (x .0 .tst1) (x .0 .l) ≡ b → Passed n x (pass n x)
+    go (At i c) q b s =
+        let e : _≡_ {A = ℕ × ℕ} (c, i) (pass n x .0 .stop, pass n x .0 .index) = ap (λ (a : Bad). left a (tiny (y .3) (x .0 .tst1) (x .0 .l))) (sym q) in
+        sees (subst (λ (t : ℕ × ℕ). FirstIn (list1 (carried (pass n x))) (t .0) (t .1)) e (mark1-first (carried (pass n x)) c i q))
+    go Nowhere q true s =
+        let f = mark1-sound (carried (pass n x)) q in
+        settles (λ i. left (q i) (s i) .0) (λ i. left (q i) (s i) .1) f s (fine f)
+    go Nowhere q false s =
+        let f = mark1-sound (carried (pass n x)) q in
+        on (λ i. left (q i) (s i) .0) (λ i. left (q i) (s i) .1) f s (fine f)
 
 -- ---- the passes at one l
 
@@ -83,14 +104,15 @@ record Came (n k : ℕ) (x y : State) : Type 0 where
   e : End
   looped : Looped n (x .0 .l) (x .0 .m) k c (carried x) e (carried y)
   stops : y .0 .stop ≡ code e
+  points : y .0 .index ≡ pointer e
   counts : y .0 .count ≡ x .0 .count + c
   stays : y .0 .l ≡ x .0 .l
   fine : y .0 .stop ≡ 1 → Fine n y
 
-rounds-came : (n k : ℕ) (x : State) → x .0 .l < x .0 .m → x .0 .m < n → x .0 .stop ≡ 0 → Fine n x → Came n k x (rounds (pass n) ended k x)
-unfolding rounds pass code
-rounds-came n zero x h g z p = record { c = 0; e = used; looped = no-more; stops = z; counts = omega arith; stays = refl; fine = λ q. absurd (omega arith) }
-rounds-came n (suc k) x h g z p = go (one-pass n x h g p) (λ q r. rounds-came n k (pass n x) h g q r)
+rounds-came : (n k : ℕ) (x : State) → x .0 .l < x .0 .m → x .0 .m < n → x .0 .stop ≡ 0 → x .0 .index ≡ 0 → Fine n x → Came n k x (rounds (pass n) ended k x)
+unfolding rounds pass code pointer
+rounds-came n zero x h g z o p = record { c = 0; e = used; looped = no-more; stops = z; points = o; counts = omega arith; stays = refl; fine = λ q. absurd (omega arith) }
+rounds-came n (suc k) x h g z o p = go (one-pass n x h g p) (λ q r. rounds-came n k (pass n x) h g q r)
   where
     y : State
     y = pass n x
@@ -101,14 +123,16 @@ rounds-came n (suc k) x h g z p = go (one-pass n x h g p) (λ q r. rounds-came n
     over : {s : ℕ} → y .0 .stop ≡ s → Came n (suc k) x (cond (not (eqb s 0)) y rest) → Came n (suc k) x (cond (ended y) y rest)
     over q a = subst (λ (s : ℕ). Came n (suc k) x (cond (not (eqb s 0)) y rest)) (sym q) a
 
-    go : Passed n x y → (y .0 .stop ≡ 0 → Fine n y → Came n k y rest) → Came n (suc k) x (cond (ended y) y rest)
-    go (sees q f) later =
-        over q (record { c = 1; e = bad; looped = stop f; stops = q; counts = refl; stays = refl; fine = λ o. absurd (omega (arith, q, o)) })
-    go (settles q f s r) later =
-        over q (record { c = 1; e = here; looped = once f s; stops = q; counts = refl; stays = refl; fine = λ o. r })
-    go (on q f s r) later =
-        let w = later q r in
-        over q (record { c = suc (w .c); e = w .e; looped = again f s (w .looped); stops = w .stops; counts = w .counts ∙ omega arith; stays = w .stays; fine = w .fine })
+    go : Passed n x y → (y .0 .stop ≡ 0 → y .0 .index ≡ 0 → Fine n y → Came n k y rest) → Came n (suc k) x (cond (ended y) y rest)
+    go (sees f) later = ⊎-elim (λ q. over q (saw (omega (arith, q)))) (λ q. over q (saw (omega (arith, q)))) (first-class (list1 (carried y)) (y .0 .stop) (y .0 .index) f)
+      where
+        saw : 7 < y .0 .stop → Came n (suc k) x y
+        saw q = record { c = 1; e = bad (y .0 .stop) (y .0 .index); looped = stop f; stops = refl; points = refl; counts = refl; stays = refl; fine = λ o. absurd (omega (arith, q, o)) }
+    go (settles q t f s r) later =
+        over q (record { c = 1; e = here; looped = once f s; stops = q; points = t; counts = refl; stays = refl; fine = λ o. r })
+    go (on q t f s r) later =
+        let w = later q t r in
+        over q (record { c = suc (w .c); e = w .e; looped = again f s (w .looped); stops = w .stops; points = w .points; counts = w .counts ∙ omega arith; stays = w .stays; fine = w .fine })
 
 -- ---- one l
 
@@ -126,7 +150,7 @@ record Halted (n limit : ℕ) (first : Carried) (e : End) (l : ℕ) (s : State) 
 
 -- where a run stands before l
 data Stood (n limit : ℕ) (first : Carried) (l : ℕ) (s : State) : Type 0 where
-  marked : s .0 .stop ≡ 8 → Halted n limit first bad l s → Stood n limit first l s
+  marked : Stopped s → Halted n limit first (bad (s .0 .stop) (s .0 .index)) l s → Stood n limit first l s
   spent : s .0 .stop ≡ 9 → Halted n limit first used l s → Stood n limit first l s
   going : s .0 .stop ≡ 0 → Fine n s → Ran n limit first l (s .0 .count) (carried s) → Stood n limit first l s
 
@@ -168,9 +192,11 @@ closed-here : (x : State) → x .0 .stop ≡ 1 → closed x ≡ released x
 unfolding closed
 closed-here x q = λ i. cond (eqb (q i) 1) (released x) (cond (eqb (q i) 0) (stopping (x .0) 9, x .1, x .2, x .3) x)
 
-closed-bad : (x : State) → x .0 .stop ≡ 8 → closed x ≡ x
-unfolding closed
-closed-bad x q = λ i. cond (eqb (q i) 1) (released x) (cond (eqb (q i) 0) (stopping (x .0) 9, x .1, x .2, x .3) x)
+closed-bad : (x : State) → Stopped x → closed x ≡ x
+unfolding closed Stopped
+closed-bad x = ⊎-elim
+    (λ q i. cond (eqb (q i) 1) (released x) (cond (eqb (q i) 0) (stopping (x .0) 9, x .1, x .2, x .3) x))
+    (λ q i. cond (eqb (q i) 1) (released x) (cond (eqb (q i) 0) (stopping (x .0) 9, x .1, x .2, x .3) x))
 
 closed-used : (x : State) → x .0 .stop ≡ 0 → closed x ≡ (stopping (x .0) 9, x .1, x .2, x .3)
 unfolding closed
@@ -189,13 +215,16 @@ module _ (n limit l : ℕ) (first : Carried) (y : State) (h : l < n) (p : Fine n
       record { place = l; count = y .0 .count; passes = k; before = carried y; below = omega arith; ran = r; turned = t; counts = c; stays = s }
 
   by-came : (z : State) → ltb l (searched n l (grown l (carried y))) ≡ true → come n l y .0 .m ≡ searched n l (grown l (carried y)) → Came n limit (come n l y) z → Stood n limit first (suc l) (closed z)
-  unfolding opened code
-  by-came z b m w = go (w .e) (w .stops) (subst (λ (j : ℕ). Looped n l j limit (w .c) (grown l (carried y)) (w .e) (carried z)) m (w .looped))
+  unfolding opened code pointer Stopped
+  by-came z b m w = go (w .e) (w .stops) (w .points) (subst (λ (j : ℕ). Looped n l j limit (w .c) (grown l (carried y)) (w .e) (carried z)) m (w .looped))
     where
-      go : (e : End) → z .0 .stop ≡ code e → Looped n l (searched n l (grown l (carried y))) limit (w .c) (grown l (carried y)) e (carried z) → Stood n limit first (suc l) (closed z)
-      go here q a = left z (w .c) q (w .stays) (w .counts) (w .fine q) (by-passes b a)
-      go bad q a = subst (Stood n limit first (suc l)) (sym (closed-bad z q)) (marked q (halts z (w .c) bad (w .stays) (w .counts) (by-mark b a)))
-      go used q a =
+      go : (e : End) → z .0 .stop ≡ code e → z .0 .index ≡ pointer e → Looped n l (searched n l (grown l (carried y))) limit (w .c) (grown l (carried y)) e (carried z) → Stood n limit first (suc l) (closed z)
+      go here q o a = left z (w .c) q (w .stays) (w .counts) (w .fine q) (by-passes b a)
+      go (bad k i) q o a =
+          let s : Stopped z = ⊎-elim (λ e. inl (q ∙ e)) (λ e. inr (q ∙ e)) (first-class (list1 (carried z)) k i (looped-sees n l (searched n l (grown l (carried y))) a)) in
+          let t = subst (λ (t : ℕ × ℕ). Turned n limit l (carried y) (w .c) (bad (t .0) (t .1)) (carried z)) (λ j. (sym q j, sym o j)) (by-mark b a) in
+          subst (Stood n limit first (suc l)) (sym (closed-bad z s)) (marked s (halts z (w .c) (bad (z .0 .stop) (z .0 .index)) (w .stays) (w .counts) t))
+      go used q o a =
           subst (Stood n limit first (suc l)) (sym (closed-used z q))
           (spent refl (halts (stopping (z .0) 9, z .1, z .2, z .3) (w .c) used (w .stays) (w .counts) (by-limit b a)))
 
@@ -219,7 +248,7 @@ module _ (n limit l : ℕ) (first : Carried) (y : State) (h : l < n) (p : Fine n
       go : (b : Bool) → ltb l m ≡ b → Stood n limit first (suc l) (closed (cond (not (eqb (cond (ltb l m) 0 1) 0)) (come n l y) rest))
       go true b =
           over b (by-came rest (ap (ltb l) (sym same) ∙ b) same
-          (rounds-came n limit (come n l y) (ltb-true l m b) (split-below n l _ (y .3) h) (ap (λ (c : Bool). cond c 0 1) b) (come-fine n l y p)))
+          (rounds-came n limit (come n l y) (ltb-true l m b) (split-below n l _ (y .3) h) (ap (λ (c : Bool). cond c 0 1) b) refl (come-fine n l y p)))
       go false b = over b (left (come n l y) 0 (ap (λ (c : Bool). cond c 0 1) b) refl (omega arith) (come-fine n l y p) (at-once (ap (ltb l) (sym same) ∙ b)))
 
 -- a run that has stopped stays as it is
@@ -227,14 +256,14 @@ later : {n limit : ℕ} {first : Carried} {e : End} {l : ℕ} {s : State} → Ha
 later h = record { place = h .place; count = h .count; passes = h .passes; before = h .before; below = omega (arith, h .below); ran = h .ran; turned = h .turned; counts = h .counts; stays = h .stays }
 
 turn-stood : (n limit l : ℕ) (first : Carried) (y : State) → l < n → Stood n limit first l y → Stood n limit first (suc l) (turn n limit l y)
-unfolding turn
+unfolding turn Stopped
 turn-stood n limit l first y h s = go s
   where
     over : {b : ℕ} → y .0 .stop ≡ b → Stood n limit first (suc l) (cond (not (eqb b 0)) y (stage n limit l y)) → Stood n limit first (suc l) (cond (ended y) y (stage n limit l y))
     over q a = subst (λ (b : ℕ). Stood n limit first (suc l) (cond (not (eqb b 0)) y (stage n limit l y))) (sym q) a
 
     go : Stood n limit first l y → Stood n limit first (suc l) (cond (ended y) y (stage n limit l y))
-    go (marked q w) = over q (marked q (later w))
+    go (marked q w) = ⊎-elim (λ e. over e (marked q (later w))) (λ e. over e (marked q (later w))) q
     go (spent q w) = over q (spent q (later w))
     go (going q p r) = over q (stage-stood n limit l first y h p r)
 
@@ -256,58 +285,62 @@ stands n limit l x z h e =
 pub test-at-last : (n limit l : ℕ) (v d e : Vec) → l < n → length e ≡ n →
     let s = upto (turn n limit) 0 l (fresh, v, d, movedUp n e) in
     s .0 .stop ≡ 0 → tiny (s .3) (larger (s .0 .tst1) (magnitude (at (s .2) l) ⊕ magnitude (at (s .3) l))) (n - 1) ≡ true
-unfolding started
+unfolding started Stopped
 test-at-last n limit l v d e h g q = go (stands n limit l (v, d, e) (omega arith) (omega arith) g)
   where
     s : State
     s = upto (turn n limit) 0 l (fresh, v, d, movedUp n e)
 
     go : Stood n limit (begun n (v, d, e)) l s → settled (n - 1) (grown l (carried s)) ≡ true
-    go (marked z w) = absurd (omega arith)
+    go (marked z w) = absurd (⊎-elim (λ e. omega arith) (λ e. omega arith) z)
     go (spent z w) = absurd (omega arith)
     go (going z p r) = come-last n l s p
 
 -- ---- the whole
 
-mark2-whole : (n : ℕ) (x : Carried) → 0 < n → length (x .v) ≡ n * n → mark2 n (x .v) (x .d) ≡ false → Whole x
+mark2-whole : (n : ℕ) (x : Carried) → length (x .v) ≡ n * n → mark2 n (x .v) (x .d) ≡ Nowhere → Whole x
 unfolding mark2
-mark2-whole n x z l h =
-    let o = or-false (isBad (firstBad (x .d))) (isBad (firstBadCell n (x .v))) h in
-    record { values = scan-finite (x .d) (o .0); vectors = cells-finite n n (x .v) l z (o .1) }
+mark2-whole n x l h =
+    let o = finite-both (x .d) (byRows n (x .v)) (firstBad-none (list2 n x) h) in
+    record { values = o .0; vectors = cells-finite n n (x .v) l (o .1) }
 
-whole-mark2 : (n : ℕ) (x : Carried) → 0 < n → length (x .v) ≡ n * n → Whole x → mark2 n (x .v) (x .d) ≡ false
+mark2-first : (n : ℕ) (x : Carried) (b i : ℕ) → mark2 n (x .v) (x .d) ≡ At i b → FirstIn (list2 n x) b i
 unfolding mark2
-whole-mark2 n x z l w = rw (finite-scan (x .d) (w .values), finite-cells n n (x .v) l z (w .vectors))
+mark2-first n x b i h = scan-first (at (list2 n x)) (length (list2 n x)) i b h
 
-finished-told : (n limit : ℕ) (x : Vec × Vec × Vec) (y : State) → 0 < n → length (x .0) ≡ n * n → Stood n limit (begun n x) n y → Told n limit x (finished n y)
-unfolding finished
-finished-told n limit x y z long s = go s
+finished-told : (n limit : ℕ) (x : Vec × Vec × Vec) (y : State) → length (x .0) ≡ n * n → Stood n limit (begun n x) n y → Told n limit x (finished n y)
+unfolding finished Stopped
+finished-told n limit x y long s = go s
   where
-    end : Bool → Ended
-    end b = cond b (answered 8 2 (y .0 .count), y .1, y .2, y .3) (done (y .0 .count), sorted n (y .1, y .2) .0, sorted n (y .1, y .2) .1, y .3)
+    end : Bad → Ended
+    end b = cond (isBad b) (answers.marked 2 (y .0 .count) b, y .1, y .2, y .3) (done (y .0 .count), sorted n (y .1, y .2) .0, sorted n (y .1, y .2) .1, y .3)
 
     after : ℕ → Ended
     after s =
-        cond (eqb s 8) (answered 8 1 (y .0 .count), y .1, y .2, y .3)
-        (cond (eqb s 9) (answered 9 (y .0 .l) (y .0 .count), y .1, y .2, y .3) (end (mark2 n (y .1) (y .2))))
+        cond (eqb s 9) (answered 9 (y .0 .l) 0 (y .0 .count), y .1, y .2, y .3)
+        (cond (not (eqb s 0)) (answered (y .0 .stop) 1 (y .0 .index) (y .0 .count), y .1, y .2, y .3) (end (mark2 n (y .1) (y .2))))
 
     over : {s : ℕ} → y .0 .stop ≡ s → Told n limit x (after s) → Told n limit x (after (y .0 .stop))
     over q a = subst (λ (s : ℕ). Told n limit x (after s)) (sym q) a
 
-    last : Ran n limit (begun n x) n (y .0 .count) (carried y) → length (y .1) ≡ n * n → (b : Bool) → mark2 n (y .1) (y .2) ≡ b → Told n limit x (end b)
-    last r l true e = at-mark2 r (λ w. true≢false (sym e ∙ whole-mark2 n (carried y) z l w))
-    last r l false e = well r (mark2-whole n (carried y) z l e)
+    last : Ran n limit (begun n x) n (y .0 .count) (carried y) → length (y .1) ≡ n * n → (b : Bad) → mark2 n (y .1) (y .2) ≡ b → Told n limit x (end b)
+    last r l (At i b) e = at-mark2 r (mark2-first n (carried y) b i e)
+    last r l Nowhere e = well r (mark2-whole n (carried y) l e)
+
+    stopped : Halted n limit (begun n x) (bad (y .0 .stop) (y .0 .index)) n y → Told n limit x (answered (y .0 .stop) 1 (y .0 .index) (y .0 .count), y .1, y .2, y .3)
+    stopped w =
+        subst (λ (k : ℕ). Told n limit x (answered (y .0 .stop) 1 (y .0 .index) k, y .1, y .2, y .3)) (sym (w .counts)) (at-mark1 (w .below) (w .ran) (w .turned))
 
     go : Stood n limit (begun n x) n y → Told n limit x (after (y .0 .stop))
-    go (marked q w) = over q (subst (λ (k : ℕ). Told n limit x (answered 8 1 k, y .1, y .2, y .3)) (sym (w .counts)) (at-mark1 (w .below) (w .ran) (w .turned)))
+    go (marked q w) = ⊎-elim (λ e. over e (stopped w)) (λ e. over e (stopped w)) q
     go (spent q w) =
-        over q (subst (λ (t : ℕ × ℕ). Told n limit x (answered 9 (t .0) (t .1), y .1, y .2, y .3)) (λ i. (sym (w .stays) i, sym (w .counts) i)) (at-limit (w .below) (w .ran) (w .turned)))
+        over q (subst (λ (t : ℕ × ℕ). Told n limit x (answered 9 (t .0) 0 (t .1), y .1, y .2, y .3)) (λ i. (sym (w .stays) i, sym (w .counts) i)) (at-limit (w .below) (w .ran) (w .turned)))
     go (going q f r) = over q (last r (ran-long n (ran-document n limit r) .vectors ∙ long) (mark2 n (y .1) (y .2)) refl)
 
 -- **the outcome of tql2 is the one that is told**
 pub told : (n limit : ℕ) (x : Vec × Vec × Vec) → 0 < n → length (x .0) ≡ n * n → length (x .2) ≡ n → Told n limit x (tql2 n limit x)
 unfolding tql2 run started
-told n limit x z long e = finished-told n limit x _ z long (stands n limit n x z (omega arith) e)
+told n limit x z long e = finished-told n limit x _ long (stands n limit n x z (omega arith) e)
 
 -- **marks and limit only stop**: where an outcome is done, it is document 000's
 pub tql2-document : (n limit : ℕ) (x : Vec × Vec × Vec) → 0 < n → length (x .0) ≡ n * n → length (x .2) ≡ n → tql2 n limit x .0 .answer ≡ 0

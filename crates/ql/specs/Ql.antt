@@ -1,6 +1,7 @@
 -- Document 000's `tql2`, operation for operation, with the marks and the limit of 01. Definitions only.
 -- v is the n by n matrix, column by column. What a step changes comes last, in the order v, d, e, and the run's record r in front of them.
-use mathlib.Core.Bool.{Bool, cond, not, _||_}
+use mathlib.Core.Bool.{Bool, cond, not}
+use mathlib.Core.List.{_++_}
 use Prim.Native.Nat.{ℕ, _+_, _-_}
 use lib.Dec.{ltb, eqb}
 use lib.Ieee.{Float, lt}
@@ -9,10 +10,11 @@ use Rattle.grid.specs.Loop.{upto, first, rounds}
 use Rattle.grid.specs.Real.{Vec, zero64, at, _⊕_}
 use Rattle.grid.specs.Cell.{at2, put2}
 use Rattle.leaves.specs.Leaf.{magnitude, larger}
-use Rattle.leaves.specs.Scan.{firstBad, firstBadCell, isBad}
-use Rattle.answers.specs.Answers.{done, answered}
+use Rattle.leaves.specs.Scan.{firstBad, byRows, isBad}
+use Rattle.leaves.specs.declared.Bad.{Bad}
+use Rattle.answers.specs.Answers.{done, answered, marked}
 use Rattle.answers.specs.declared.Answer.{Answer}
-use Rattle.pass.specs.Pass.{tiny, going, converged, notFinite, limitUsed, pass}
+use Rattle.pass.specs.Pass.{tiny, going, converged, limitUsed, pass}
 use Rattle.pass.specs.declared.Run.{Run}
 use Rattle.ql.specs.declared.Best.{Best}
 
@@ -31,11 +33,11 @@ movedUp n e = set (upto upStep 1 n e) (n - 1) zero64
 
 -- a run before its first l
 abbrev pub fresh : Run
-fresh = record { l = 0; m = 0; f = zero64; tst1 = zero64; passes = 0; count = 0; stop = going }
+fresh = record { l = 0; m = 0; f = zero64; tst1 = zero64; passes = 0; count = 0; stop = going; index = 0 }
 
--- a run with another reason to stop
+-- a run with another reason to stop, which is no mark
 abbrev pub stopping : Run → ℕ → Run
-stopping r stop = record { l = r .l; m = r .m; f = r .f; tst1 = r .tst1; passes = r .passes; count = r .count; stop = stop }
+stopping r stop = record { l = r .l; m = r .m; f = r .f; tst1 = r .tst1; passes = r .passes; count = r .count; stop = stop; index = 0 }
 
 -- the m to split on: the first from l at which e counts as zero, and n - 1 at the latest
 unfoldable pub split : ℕ → ℕ → Float → Vec → ℕ
@@ -46,7 +48,7 @@ unfoldable pub opened : ℕ → ℕ → Run → Vec → Vec → Run
 opened n l r d e =
     let tst1 = larger (r .tst1) (magnitude (at d l) ⊕ magnitude (at e l)) in
     let m = split n l tst1 e in
-    record { l = l; m = m; f = r .f; tst1 = tst1; passes = 0; count = r .count; stop = cond (ltb l m) going converged }
+    record { l = l; m = m; f = r .f; tst1 = tst1; passes = 0; count = r .count; stop = cond (ltb l m) going converged; index = 0 }
 
 abbrev pub ended : State → Bool
 ended (r, v, d, e) = not (eqb (r .stop) going)
@@ -106,18 +108,19 @@ sorted n x = upto (sortStep n) 0 (n - 1) x
 
 -- ---- the whole: the answer, v, d and e
 
--- mark 2: a number of d or of v is not finite
-unfoldable pub mark2 : ℕ → Vec → Vec → Bool
-mark2 n v d = isBad (firstBad d) || isBad (firstBadCell n v)
+-- mark 2 looks at d, then at v row by row: the first number that is not finite
+unfoldable pub mark2 : ℕ → Vec → Vec → Bad
+mark2 n v d = firstBad (d ++ byRows n v)
 
+-- a run that the limit stopped, or mark 1; else mark 2, and the sort
 unfoldable pub finished : ℕ → State → Answer × Vec × Vec × Vec
 finished n (r, v, d, e) =
-    cond (eqb (r .stop) notFinite)
-    (answered 8 1 (r .count), v, d, e)
-    (cond (eqb (r .stop) limitUsed)
-    (answered 9 (r .l) (r .count), v, d, e)
-    (cond (mark2 n v d)
-    (answered 8 2 (r .count), v, d, e)
+    cond (eqb (r .stop) limitUsed)
+    (answered 9 (r .l) 0 (r .count), v, d, e)
+    (cond (not (eqb (r .stop) going))
+    (answered (r .stop) 1 (r .index) (r .count), v, d, e)
+    (cond (isBad (mark2 n v d))
+    (marked 2 (r .count) (mark2 n v d), v, d, e)
     (let (v, d) = sorted n (v, d) in (done (r .count), v, d, e))))
 
 unfoldable pub tql2 : ℕ → ℕ → Vec × Vec × Vec → Answer × Vec × Vec × Vec

@@ -9,11 +9,14 @@ ghost use Rattle.ql.specs.Ql.{movedUp, split, opened, iterated, stopping
 use answers::Answer;
 use answers::answered;
 use answers::done;
+use answers::marked;
 use grid::EPSILON;
 use grid::at;
 use grid::at1;
 use grid::put;
 use grid::put1;
+use leaves::Bad;
+use leaves::behind;
 use leaves::first_bad;
 use leaves::first_bad_cell;
 use leaves::is_bad;
@@ -70,6 +73,7 @@ fn begin(n: usize, l: usize, r: Run, d: &[f64], e: &[f64]) -> Run
             passes: 0,
             count: r.count,
             stop: 0,
+            index: 0,
         };
     }
     Run {
@@ -80,6 +84,7 @@ fn begin(n: usize, l: usize, r: Run, d: &[f64], e: &[f64]) -> Run
         passes: 0,
         count: r.count,
         stop: 1,
+        index: 0,
     }
 }
 
@@ -118,7 +123,7 @@ fn close(r: Run, d: &mut [f64], e: &mut [f64]) -> Run
     r
 }
 
-// r with another reason to stop.
+// r with another reason to stop, which is no mark.
 fn stopping(r: Run, stop: usize) -> Run
     ensures { λ q. ⌜ q ≡ stopping r stop ⌝ }
 {
@@ -130,6 +135,7 @@ fn stopping(r: Run, stop: usize) -> Run
         passes: r.passes,
         count: r.count,
         stop,
+        index: 0,
     }
 }
 
@@ -167,6 +173,7 @@ fn run(n: usize, limit: usize, v: &mut [f64], d: &mut [f64], e: &mut [f64]) -> R
         passes: 0,
         count: 0,
         stop: 0,
+        index: 0,
     };
     for l in 0..n {
         r = turn(n, limit, l, r, v, d, e);
@@ -234,13 +241,14 @@ fn sort(n: usize, v: &mut [f64], d: &mut [f64])
 }
 
 // Mark 2.
-fn mark2(n: usize, v: &[f64], d: &[f64]) -> bool
+fn mark2(n: usize, v: &[f64], d: &[f64]) -> Bad
     ensures { λ r. ⌜ r ≡ mark2 n (now (v .entry)) (now (d .entry)) ⌝ }
 {
-    if is_bad(first_bad(d)) {
-        return true;
+    let b = first_bad(d);
+    if is_bad(b) {
+        return b;
     }
-    is_bad(first_bad_cell(n, v))
+    behind(d.len(), first_bad_cell(n, v))
 }
 
 // The answer of a run, and the sort where it is done.
@@ -248,14 +256,15 @@ fn finish(n: usize, r: Run, v: &mut [f64], d: &mut [f64]) -> Answer
     requires { ⌜ (0 < n) × (length (now v) ≡ n * n) × (length (now d) ≡ n) ⌝ }
     ensures { λ a. ⌜ ((e : Vec) → (a, now (v .exit), now (d .exit), e) ≡ finished n (r, now (v .entry), now (d .entry), e)) ⌝ }
 {
-    if r.stop == 8 {
-        return answered(8, 1, r.count);
-    }
     if r.stop == 9 {
-        return answered(9, r.l, r.count);
+        return answered(9, r.l, 0, r.count);
     }
-    if mark2(n, v, d) {
-        return answered(8, 2, r.count);
+    if r.stop != 0 {
+        return answered(r.stop, 1, r.index, r.count);
+    }
+    let b = mark2(n, v, d);
+    if is_bad(b) {
+        return marked(2, r.count, b);
     }
     sort(n, v, d);
     done(r.count)

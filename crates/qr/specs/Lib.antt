@@ -4,3 +4,5 @@ pub mod One
 pub mod Quotient
 pub mod Out
 pub mod Old
+pub mod Index
+pub mod IndexLaws

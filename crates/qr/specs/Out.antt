@@ -1,5 +1,6 @@
 -- Where the answer is 0, every number of the answer array is finite, and it is as long as the matrix: a finite norm makes each entry's square finite. Laws only.
 use mathlib.Core.Path.{_≡_, refl, sym, ap, _∙_, subst}
+use mathlib.Core.Logic.{⊎-elim}
 use mathlib.Core.Bool.{Bool, true, false, cond}
 use Prim.Native.Nat.{ℕ, zero, suc, _+_, _*_, _<_}
 use native.Mathlib.Numerals.{add-one}
@@ -16,12 +17,12 @@ use Rattle.grid.specs.CellLaws.{upto-long}
 use Rattle.grid.specs.Table.{table}
 use Rattle.grid.specs.TableLaws.{length-table, at-table, each}
 use Rattle.leaves.specs.Leaf.{isFinite}
-use Rattle.leaves.specs.Scan.{firstBad}
-use Rattle.leaves.specs.ScanLaws.{firstBad-none}
+use Rattle.leaves.specs.Scan.{classOf, firstBad}
+use Rattle.leaves.specs.ScanLaws.{firstBad-none, class-cases}
 use Rattle.leaves.specs.Finite.{Finite}
 use Rattle.leaves.specs.declared.Bad.{Bad}
 use Rattle.leaves.specs.declared.Bad.the-variants.{At, Nowhere}
-use Rattle.answers.specs.Answers.{done, passed, emptied, unlessBad}
+use Rattle.answers.specs.Answers.{answered, done, passed, emptied, unlessBad}
 use Rattle.answers.specs.OutcomeLaws.{Good, refuses, check-good}
 use Rattle.answers.specs.declared.Answer.{Answer}
 use Rattle.qr.specs.Qr.{columnOf, dotStep, dot, lessStep, lessened, passStep, pass, passes, norm, overStep, over, normalised, putStep, putColumn, finished, column, columnStep, columns, checks, qrQ}
@@ -108,6 +109,10 @@ put-long : (m k j : ℕ) (c q : Vec) → length (putColumn m k j c q) ≡ length
 unfolding putColumn
 put-long m k j c q = upto-long (λ c. c) (putStep k j c) 0 m q (λ row u. simp length-set)
 
+-- a refusal by a class is one
+pub class-some : (x : Float) → classOf x ≡ 0 → ⊥
+class-some x z = ⊎-elim (λ e. omega arith) (λ e. omega arith) (class-cases x)
+
 column-good : (n m k j : ℕ) (q : Vec) → Finite q → length q ≡ n → Good n (column m k j q)
 unfolding column finished
 column-good n m k j q f l = go (isFinite (norm m c)) refl
@@ -118,12 +123,12 @@ column-good n m k j q f l = go (isFinite (norm m c)) refl
     long : length c ≡ m
     long = passes-long m k j q (columnOf m k q j) ∙ length-table _ m
 
-    go : (b : Bool) → isFinite (norm m c) ≡ b → Good n (cond b (done 0, putColumn m k j (normalised m (norm m c) c) q) (emptied 8 j q))
+    go : (b : Bool) → isFinite (norm m c) ≡ b → Good n (cond b (done 0, putColumn m k j (normalised m (norm m c) c) q) (emptied (answered (classOf (norm m c)) j j 0) q))
     go true e = record {
       finite = λ z. put-finite m k j (normalised m (norm m c) c) q (normalised-long m (norm m c) c ∙ long) (normalised-finite m c long e) f;
       long = λ z. put-long m k j (normalised m (norm m c) c) q ∙ l;
     }
-    go false e = refuses n _ _ (λ z. omega arith)
+    go false e = refuses n _ _ (class-some (norm m c))
 
 columns-good : (m k : ℕ) (a : Vec) → Finite a → Good (length a) (columns m k a)
 unfolding columns
@@ -142,7 +147,7 @@ unfolding qrQ
 qr-good m k a x = check-good (length a) (checks m k (length a) (length x)) x _ (scanned (firstBad a) refl)
   where
     scanned : (b : Bad) → firstBad a ≡ b → Good (length a) (unlessBad b x (columns m k a))
-    scanned (At i) e = refuses (length a) _ _ (λ z. omega arith)
+    scanned (At i c) e = refuses (length a) _ _ (λ z. omega arith)
     scanned Nowhere e = columns-good m k a (firstBad-none a e)
 
 -- **finite-out**

@@ -9,11 +9,11 @@ use Rattle.grid.specs.Loop.{upto}
 use Rattle.grid.specs.Real.{Vec, zero64, epsilon, zeros, at, _⊕_, _⊖_, _⊗_, _⊘_}
 use Rattle.grid.specs.Cell.{entry, putEntry}
 use Rattle.grid.specs.Table.{table}
-use Rattle.answers.specs.Answers.{refused, done, passed, lengths, emptied, unlessBad}
+use Rattle.answers.specs.Answers.{answered, refused, done, passed, lengths, emptied, unlessBad}
 use Rattle.answers.specs.declared.Answer.{Answer}
 use Rattle.leaves.specs.Leaf.{isFinite}
 use Rattle.leaves.specs.Root.{root}
-use Rattle.leaves.specs.Scan.{firstBad}
+use Rattle.leaves.specs.Scan.{classOf, firstBad}
 
 -- ---- one column
 
@@ -65,11 +65,11 @@ putStep k j c row q = putEntry q k row j (at c row)
 unfoldable pub putColumn : ℕ → ℕ → ℕ → Vec → Vec → Vec
 putColumn m k j c q = upto (putStep k j c) 0 m q
 
--- ---- the run: the three numbers, and q
+-- ---- the run: the four numbers, and q
 
--- 8 where the norm of c, which becomes column j, is not finite
+-- 8 or 10 where the norm of c, which becomes column j, is not finite: its class decides, and the index is the column too
 unfoldable pub finished : ℕ → ℕ → ℕ → Float → Vec → Vec → Answer × Vec
-finished m k j by c q = cond (isFinite by) (done 0, putColumn m k j (normalised m by c) q) (emptied 8 j q)
+finished m k j by c q = cond (isFinite by) (done 0, putColumn m k j (normalised m by c) q) (emptied (answered (classOf by) j j 0) q)
 
 unfoldable pub column : ℕ → ℕ → ℕ → Vec → Answer × Vec
 column m k j q =

@@ -6,6 +6,7 @@ ghost use Rattle.answers.specs.Answers.{unlessBad};
 ghost use Rattle.leaves.specs.Scan.{firstBad};
 ghost use Rattle.qr.specs.Qr.{columnOf, dot, lessened, pass, passes, norm, over, normalised, putColumn, finished, column, columns, checks, qrQ};
 use answers::Answer;
+use answers::answered;
 use answers::done;
 use answers::lengths;
 use answers::refuse;
@@ -19,6 +20,7 @@ use grid::fill;
 use grid::put_entry;
 use grid::put1;
 use leaves::Bad;
+use leaves::class_of;
 use leaves::first_bad;
 use leaves::is_finite;
 use leaves::root;
@@ -111,7 +113,7 @@ fn put_column(m: usize, k: usize, j: usize, c: &[f64], q: &mut [f64])
     }
 }
 
-// c, whose norm is `by`, becomes column j of q.
+// c, whose norm is `by`, becomes column j of q. A norm that is not finite decides by its class.
 fn finish(m: usize, k: usize, j: usize, by: f64, c: &mut [f64], q: &mut [f64]) -> Answer
     requires { ⌜ (j < k) × (length (now q) ≡ m * k) × (length (now c) ≡ m) ⌝ }
     ensures { λ r. ⌜ (r, now (q .exit)) ≡ finished m k j by (now (c .entry)) (now (q .entry)) ⌝ }
@@ -121,7 +123,7 @@ fn finish(m: usize, k: usize, j: usize, by: f64, c: &mut [f64], q: &mut [f64]) -
         put_column(m, k, j, c, q);
         return done(0);
     }
-    refuse(8, j, q)
+    refuse(answered(class_of(by), j, j, 0), q)
 }
 
 fn column(m: usize, k: usize, j: usize, b: &mut [f64], c: &mut [f64], q: &mut [f64]) -> Answer
@@ -174,10 +176,10 @@ fn scanned(m: usize, k: usize, a: &[f64], x: &mut [f64]) -> Answer
     requires { ⌜ (m ≤ 256) × (length (now a) ≡ m * k) × (length (now x) ≡ m * k) ⌝ }
     ensures { λ r. ⌜ (r, now (x .exit)) ≡ unlessBad (firstBad (now (a .entry))) (now (x .entry)) (columns m k (now (a .entry))) ⌝ }
 {
-    let Bad::At(i) = first_bad(a) else {
+    let Bad::At(i, _) = first_bad(a) else {
         return run(m, k, a, x);
     };
-    refuse(7, i, x)
+    refuse(refused(7, i), x)
 }
 
 pub fn qr_q(m: usize, k: usize, matrix: &[f64], answer: &mut [f64]) -> Answer

@@ -1,5 +1,5 @@
 // Replays the oracle's cases from standard input (oracle/README.md has their form) and writes, by function, how many
-// agree: the three numbers, and every number of the arrays afterwards.
+// agree: the four numbers, and every number of the arrays afterwards.
 
 // ---- words and numbers
 
@@ -71,6 +71,7 @@ struct Inputs {
 struct Wanted {
     answer: u64,
     place: u64,
+    index: u64,
     count: u64,
     hash: u64,
     shown: u64,
@@ -109,6 +110,7 @@ fn read_wanted() -> Wanted {
     Wanted {
         answer: next(),
         place: next(),
+        index: next(),
         count: next(),
         hash: next(),
         shown: next(),
@@ -212,6 +214,9 @@ fn numbers_agree(got: answers::Answer, wanted: Wanted) -> bool {
         return false;
     }
     if got.place as u64 != wanted.place {
+        return false;
+    }
+    if got.index as u64 != wanted.index {
         return false;
     }
     got.count as u64 == wanted.count

@@ -1,19 +1,13 @@
 -- What the checks of `solve` and `pseudo_inverse` leave: where they refuse nothing, sizes and lengths are right.
 use mathlib.Core.Path.{_≡_, refl, sym, ap, _∙_}
 use mathlib.Core.Bool.{Bool, true, false, cond, not, _||_}
-use Prim.Native.Nat.{ℕ, _+_, _*_, _<_, _≤_}
+use Prim.Native.Nat.{ℕ, _+_, _*_, _≤_}
 use native.Mathlib.Omega.{arith}
-use borrow.Author.Tests.{ltb-true, ltb-false, le-ltb, eqb-true}
+use borrow.Author.Tests.{ltb-false, le-ltb, eqb-true}
 use lib.Dec.{ltb, eqb}
-use lib.ListN.{length}
-use Rattle.grid.specs.Real.{Vec}
-use Rattle.grid.specs.Loop.{first}
 use Rattle.answers.specs.Answers.{refused, done, lengths, least, present, decompositionLength}
 use Rattle.answers.specs.AnswersLaws.{least-le, product-le}
 use Rattle.answers.specs.declared.Answer.{Answer}
-use Rattle.leaves.specs.Scan.{notFinite, firstBad}
-use Rattle.leaves.specs.declared.Bad.{Bad}
-use Rattle.leaves.specs.declared.Bad.the-variants.{At, Nowhere}
 use Rattle.solve.specs.Solve.{parts, solveChecks, inverseChecks}
 use Rattle.solve.specs.SolveLaws.{Sized}
 
@@ -93,17 +87,6 @@ inverse-sized m n u vt d x h =
     let t = there m n u vt later refl h in
     let w = two-right d (decompositionLength m n u vt) x (n * m) (told (sym (goes m n u vt later t)) h) in
     (whole m n u vt d t (w .0), w .1)
-
--- a number that is not finite is within the list
-pub bad-below : (d : Vec) (i : ℕ) → firstBad d ≡ At i → i < length d
-unfolding firstBad
-bad-below d i = go (first (notFinite d) 0 (length d)) (ltb (first (notFinite d) 0 (length d)) (length d)) refl
-  where
-    go : (k : ℕ) (p : Bool) → ltb k (length d) ≡ p → cond p (At k) Nowhere ≡ At i → i < length d
-    go k true e h =
-        let s : k ≡ i = cc in
-        rw s at (ltb-true k (length d) e)
-    go k false e h = absurd (let z : _≡_ {A = ℕ} 0 1 = cc in omega arith)
 
 -- ---- the parts of a decomposition of length l
 

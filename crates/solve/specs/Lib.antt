@@ -4,3 +4,5 @@ pub mod SolveLaws
 pub mod One
 pub mod Out
 pub mod Old
+pub mod Index
+pub mod IndexLaws

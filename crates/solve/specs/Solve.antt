@@ -1,6 +1,7 @@
 -- `Svd::solve` and `Svd::pseudo_inverse`, operation for operation, with the checks in the scope's order. Definitions only.
 -- A decomposition is r values, r the smaller of m and n, then U row by row (m by r), then V^T row by row (r by n).
 use mathlib.Core.Bool.{Bool, cond, not, _||_}
+use mathlib.Core.List.{_++_}
 use Prim.Native.Nat.{ℕ, _+_, _*_}
 use lib.Dec.{ltb, eqb}
 use lib.Ieee.{Float, lt}
@@ -9,7 +10,7 @@ use Rattle.grid.specs.Loop.{upto}
 use Rattle.grid.specs.Real.{Vec, zero64, one64, zeros, at, _⊕_, _⊗_, _⊘_}
 use Rattle.grid.specs.Cell.{entry}
 use Rattle.grid.specs.Table.{table, rows, part}
-use Rattle.answers.specs.Answers.{refused, done, passed, lengths, least, decompositionLength, emptied, unlessBad, behind}
+use Rattle.answers.specs.Answers.{refused, done, passed, lengths, least, decompositionLength, emptied, marked, unlessBad}
 use Rattle.answers.specs.declared.Answer.{Answer}
 use Rattle.leaves.specs.Scan.{isBad, firstBad}
 
@@ -86,26 +87,23 @@ inverseChecks m n u vt d x =
     parts m n u vt
     (lengths d (decompositionLength m n u vt) x (n * m) 0 0)
 
--- ---- the outcomes: the three numbers, and the answer array x afterwards
+-- ---- the outcomes: the four numbers, and the answer array x afterwards
 
--- refusal 7 for the decomposition d, then for the right side b, whose indices are counted behind those of d
-abbrev pub unlessEither : Vec → Vec → Vec → Answer × Vec → Answer × Vec
-unlessEither d b x rest = unlessBad (firstBad d) x (unlessBad (behind (length d) (firstBad b)) x rest)
+-- mark 2 looks at the answer x
+unfoldable pub looked : Vec → Answer × Vec
+looked x = cond (isBad (firstBad x)) (emptied (marked 2 0 (firstBad x)) x) (done 0, x)
 
--- mark 2
-unfoldable pub marked : Vec → Answer × Vec
-marked x = cond (isBad (firstBad x)) (emptied 8 2 x) (done 0, x)
-
+-- refusal 7 looks at the decomposition d, then at the right side b
 unfoldable pub solve : ℕ → ℕ → ℕ → ℕ → Float → Vec → Vec → Vec → Answer × Vec
 solve m n u vt tol d b x =
     let check = solveChecks m n u vt (length d) (length b) (length x) in
     cond (passed check)
-    (unlessEither d b x (marked (solution m n tol d b)))
+    (unlessBad (firstBad (d ++ b)) x (looked (solution m n tol d b)))
     (check, x)
 
 unfoldable pub pseudoInverse : ℕ → ℕ → ℕ → ℕ → Float → Vec → Vec → Answer × Vec
 pseudoInverse m n u vt tol d x =
     let check = inverseChecks m n u vt (length d) (length x) in
     cond (passed check)
-    (unlessBad (firstBad d) x (marked (inverted m n tol d)))
+    (unlessBad (firstBad d) x (looked (inverted m n tol d)))
     (check, x)

@@ -1,20 +1,22 @@
 // The least-squares solution and the pseudo-inverse by a decomposition that `svd` made (document 000's
 // `Svd::solve` and `Svd::pseudo_inverse`).
 ghost use mathlib.Core.Path.{_≡_};
-ghost use Prim.Native.Nat.{_+_, _*_, _<_, _≤_};
+ghost use mathlib.Core.List.{_++_};
+ghost use Prim.Native.Nat.{_+_, _*_, _^_, _<_, _≤_};
 ghost use lib.ListN.{length};
 ghost use Rattle.grid.specs.Real.{at, _⊕_, _⊗_};
 ghost use Rattle.grid.specs.Cell.{entry};
 ghost use Rattle.grid.specs.Table.{table, rows};
-ghost use Rattle.answers.specs.Answers.{done, least, unlessBad, behind};
+ghost use Rattle.answers.specs.Answers.{done, least, unlessBad};
 ghost use Rattle.leaves.specs.Scan.{firstBad};
-ghost use Rattle.solve.specs.Solve.{columnSum, coefficient, solution, inverse, pinvRow, inverted, parts, solveChecks, inverseChecks, unlessEither, marked, solve, pseudoInverse};
+ghost use Rattle.solve.specs.Solve.{columnSum, coefficient, solution, inverse, pinvRow, inverted, parts, solveChecks, inverseChecks, looked, solve, pseudoInverse};
 ghost use Rattle.solve.specs.SolveLaws.{product, dot, Sized};
 use answers::Answer;
 use answers::decomposition_length;
 use answers::done;
 use answers::least;
 use answers::lengths;
+use answers::marked;
 use answers::refuse;
 use answers::refused;
 use grid::LARGEST;
@@ -23,6 +25,7 @@ use grid::entry;
 use grid::fill;
 use grid::put1;
 use leaves::Bad;
+use leaves::behind;
 use leaves::first_bad;
 use leaves::is_bad;
 
@@ -223,46 +226,47 @@ fn inverse_checks(m: usize, n: usize, has_u: usize, has_vt: usize, d: usize, x: 
     lengths(d, want, x, n * m, 0, 0)
 }
 
-// Mark 2.
-fn marked(x: &mut [f64]) -> Answer
-    ensures { λ r. ⌜ (r, now (x .exit)) ≡ marked (now (x .entry)) ⌝ }
+// Mark 2 looks at the answer.
+fn look(x: &mut [f64]) -> Answer
+    ensures { λ r. ⌜ (r, now (x .exit)) ≡ looked (now (x .entry)) ⌝ }
 {
     let bad = first_bad(x);
     if is_bad(bad) {
-        return refuse(8, 2, x);
+        return refuse(marked(2, 0, bad), x);
     }
     done(0)
 }
 
-fn solve_marked(m: usize, n: usize, tolerance: f64, d: &[f64], b: &[f64], x: &mut [f64]) -> Answer
+fn solve_looked(m: usize, n: usize, tolerance: f64, d: &[f64], b: &[f64], x: &mut [f64]) -> Answer
     requires { ⌜ Sized m n (length (now d)) × (length (now b) ≡ m) × (length (now x) ≡ n) ⌝ }
-    ensures { λ r. ⌜ (r, now (x .exit)) ≡ marked (solution m n tolerance (now (d .entry)) (now (b .entry))) ⌝ }
+    ensures { λ r. ⌜ (r, now (x .exit)) ≡ looked (solution m n tolerance (now (d .entry)) (now (b .entry))) ⌝ }
 {
     let r = least(m, n);
     let mut c = [0.0f64; LARGEST];
     solution(m, n, r, tolerance, d, b, &mut c[..r], x);
-    marked(x)
+    look(x)
 }
 
-// The right side is scanned, its indices behind those of the decomposition.
-fn solve_right(m: usize, n: usize, tolerance: f64, d: &[f64], b: &[f64], x: &mut [f64]) -> Answer
-    requires { ⌜ Sized m n (length (now d)) × (length (now b) ≡ m) × (length (now x) ≡ n) ⌝ }
-    ensures { λ r. ⌜ (r, now (x .exit)) ≡ unlessBad (behind (length (now (d .entry))) (firstBad (now (b .entry)))) (now (x .entry)) (marked (solution m n tolerance (now (d .entry)) (now (b .entry)))) ⌝ }
+// The decomposition is scanned, then the right side, its indices behind those of the decomposition.
+fn either_bad(d: &[f64], b: &[f64]) -> Bad
+    requires { ⌜ length (now d) + length (now b) ≤ 2 ^ 64 ⌝ }
+    ensures { λ r. ⌜ r ≡ firstBad (now (d .entry) ++ now (b .entry)) ⌝ }
 {
-    let Bad::At(i) = first_bad(b) else {
-        return solve_marked(m, n, tolerance, d, b, x);
-    };
-    refuse(7, d.len() + i, x)
+    let bad = first_bad(d);
+    if is_bad(bad) {
+        return bad;
+    }
+    behind(d.len(), first_bad(b))
 }
 
 fn solve_scanned(m: usize, n: usize, tolerance: f64, d: &[f64], b: &[f64], x: &mut [f64]) -> Answer
     requires { ⌜ Sized m n (length (now d)) × (length (now b) ≡ m) × (length (now x) ≡ n) ⌝ }
-    ensures { λ r. ⌜ (r, now (x .exit)) ≡ unlessEither (now (d .entry)) (now (b .entry)) (now (x .entry)) (marked (solution m n tolerance (now (d .entry)) (now (b .entry)))) ⌝ }
+    ensures { λ r. ⌜ (r, now (x .exit)) ≡ unlessBad (firstBad (now (d .entry) ++ now (b .entry))) (now (x .entry)) (looked (solution m n tolerance (now (d .entry)) (now (b .entry)))) ⌝ }
 {
-    let Bad::At(i) = first_bad(d) else {
-        return solve_right(m, n, tolerance, d, b, x);
+    let Bad::At(i, _) = either_bad(d, b) else {
+        return solve_looked(m, n, tolerance, d, b, x);
     };
-    refuse(7, i, x)
+    refuse(refused(7, i), x)
 }
 
 // The minimum-norm least-squares solution of A x = b.
@@ -293,24 +297,24 @@ pub fn solve(
     solve_scanned(m, n, tolerance, decomposition, right_side, answer)
 }
 
-fn inverse_marked(m: usize, n: usize, tolerance: f64, d: &[f64], x: &mut [f64]) -> Answer
+fn inverse_looked(m: usize, n: usize, tolerance: f64, d: &[f64], x: &mut [f64]) -> Answer
     requires { ⌜ Sized m n (length (now d)) × (length (now x) ≡ n * m) ⌝ }
-    ensures { λ r. ⌜ (r, now (x .exit)) ≡ marked (inverted m n tolerance (now (d .entry))) ⌝ }
+    ensures { λ r. ⌜ (r, now (x .exit)) ≡ looked (inverted m n tolerance (now (d .entry))) ⌝ }
 {
     let r = least(m, n);
     let mut w = [0.0f64; LARGEST];
     inverted(m, n, r, tolerance, d, &mut w[..r], x);
-    marked(x)
+    look(x)
 }
 
 fn inverse_scanned(m: usize, n: usize, tolerance: f64, d: &[f64], x: &mut [f64]) -> Answer
     requires { ⌜ Sized m n (length (now d)) × (length (now x) ≡ n * m) ⌝ }
-    ensures { λ r. ⌜ (r, now (x .exit)) ≡ unlessBad (firstBad (now (d .entry))) (now (x .entry)) (marked (inverted m n tolerance (now (d .entry)))) ⌝ }
+    ensures { λ r. ⌜ (r, now (x .exit)) ≡ unlessBad (firstBad (now (d .entry))) (now (x .entry)) (looked (inverted m n tolerance (now (d .entry)))) ⌝ }
 {
-    let Bad::At(i) = first_bad(d) else {
-        return inverse_marked(m, n, tolerance, d, x);
+    let Bad::At(i, _) = first_bad(d) else {
+        return inverse_looked(m, n, tolerance, d, x);
     };
-    refuse(7, i, x)
+    refuse(refused(7, i), x)
 }
 
 // The Moore-Penrose pseudo-inverse, n by m.

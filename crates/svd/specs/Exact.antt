@@ -11,7 +11,7 @@ use Rattle.leaves.specs.Finite.{Finite}
 use Rattle.answers.specs.Answers.{passed, least, present, decompositionLength}
 use Rattle.answers.specs.declared.Answer.{Answer}
 use Rattle.jacobi.specs.Jacobi.{normalised}
-use Rattle.jacobi.specs.Told.{Whole, End, here, Swept}
+use Rattle.jacobi.specs.Told.{Whole, Seen2, End, here, Swept}
 use Rattle.svd.specs.Order.{order}
 use Rattle.svd.specs.Svd.{longest, workLength, loaded, offset, sortedOut, svd}
 
@@ -43,16 +43,16 @@ unfoldable pub given : ℕ → ℕ → ℕ → ℕ → Answer × Vec → Outcome
 given m n wantU wantVt x =
     (x .0, zeros (workLength m n), cond (passed (x .0)) (sortedOut m n wantU wantVt (x .1) (zeros (decompositionLength m n wantU wantVt))) (zeros (decompositionLength m n wantU wantVt)))
 
--- done after c sweeps; stopped by mark 2
+-- done after c sweeps; stopped by mark 2, where number i of what it looks at is the first that is not finite, and of class a
 pub record Done (m n limit : ℕ) (matrix : Vec) (c : ℕ) : Type 0 where
   pub last : Vec
   pub sweeps-to : Swept (longest m n) (least m n) limit c (begun m n matrix) here last
   pub whole : Whole (longest m n) (least m n) (normalised (longest m n) (least m n) last)
 
-pub record Broken2 (m n limit : ℕ) (matrix : Vec) (c : ℕ) : Type 0 where
+pub record Broken2 (m n limit : ℕ) (matrix : Vec) (c a i : ℕ) : Type 0 where
   pub last : Vec
   pub sweeps-to : Swept (longest m n) (least m n) limit c (begun m n matrix) here last
-  pub not-whole : Whole (longest m n) (least m n) (normalised (longest m n) (least m n) last) → ⊥
+  pub seen : Seen2 (longest m n) (least m n) (normalised (longest m n) (least m n) last) i a
 
 -- stopped by mark 1, or by the limit
 pub record Halted (m n limit : ℕ) (matrix : Vec) (e : End) (c : ℕ) : Type 0 where

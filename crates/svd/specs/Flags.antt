@@ -1,4 +1,4 @@
--- Answer, place, count and values don't depend on the flags, nor U on V^T's, nor V^T on U's. Laws only.
+-- Answer, place, index, count and values don't depend on the flags, nor U on V^T's, nor V^T on U's. Laws only.
 use mathlib.Core.Path.{_≡_, refl, sym, ap, _∙_}
 use mathlib.Core.Bool.{Bool, true, false, cond, _||_}
 use Prim.Native.Nat.{ℕ, _*_, _<_}
@@ -15,7 +15,7 @@ use Rattle.svd.specs.Exact.{Outcome, uCell, vtCell}
 use Rattle.svd.specs.Promise.{svd-values}
 use Rattle.svd.specs.Out.{svd-cells-u, svd-cells-vt}
 
--- the three numbers of a call
+-- the four numbers of a call
 numbers : (m n wantU wantVt limit : ℕ) (matrix work result : Vec)
     → svd m n wantU wantVt limit matrix work result .0
     ≡ cond (passed (checks m n wantU wantVt limit (length matrix) (length work) (length result)))
@@ -53,7 +53,7 @@ module _ (m n u vt u′ vt′ limit : ℕ) (matrix work result work′ result′
       ∙ sym (checks-flags m n u′ vt′ limit (length matrix) (length work))
       ∙ (λ i. checks m n u′ vt′ limit (length matrix) (lw i) (sym lr′ i))
 
-  -- **svd-flags**: answer, place and count are the same, refusals too
+  -- **svd-flags**: answer, place, index and count are the same, refusals too
   pub svd-flags-numbers : svd m n u vt limit matrix work result .0 ≡ svd m n u′ vt′ limit matrix work′ result′ .0
   svd-flags-numbers =
       numbers m n u vt limit matrix work result

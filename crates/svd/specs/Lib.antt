@@ -16,3 +16,5 @@ pub mod Limit
 pub mod Out
 pub mod Flags
 pub mod Old
+pub mod Index
+pub mod IndexLaws

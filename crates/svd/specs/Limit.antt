@@ -9,10 +9,10 @@ use lib.ListN.{length}
 use Rattle.grid.specs.LoopLaws.{rounds-limit}
 use Rattle.grid.specs.Real.{Vec, zeros}
 use Rattle.leaves.specs.Scan.{firstBad}
-use Rattle.answers.specs.Answers.{answered, passed, least, refusal7}
+use Rattle.answers.specs.Answers.{passed, least, refusal7}
 use Rattle.answers.specs.OutcomeLaws.{right-limit, Settled, always, by-test}
 use Rattle.answers.specs.declared.Answer.{Answer}
-use Rattle.jacobi.specs.Jacobi.{swept, ended, sweeps, finished, jacobi}
+use Rattle.jacobi.specs.Jacobi.{going, swept, ended, sweeps, finished, jacobi}
 use Rattle.svd.specs.Svd.{longest, loaded, sortedOut, checks, ran, svd}
 use Rattle.svd.specs.Exact.{Outcome}
 
@@ -25,7 +25,7 @@ answer3 x = x .0 .answer
 jacobi-limit : (rows cols k l : ℕ) (w : Vec) → 1 ≤ k → k ≤ l → Settled answer2 (jacobi rows cols k w) (jacobi rows cols l w)
 unfolding jacobi sweeps
 jacobi-limit rows cols k l w z p = record {
-  same = λ h. ap (λ (x : Answer × Vec). cond (passed (x .0)) (finished rows cols x) x) (rounds-limit (swept rows cols) ended k l (answered 9 0 0, w) z p (over (eqb (x .0 .answer) 9) refl h));
+  same = λ h. ap (λ (x : Answer × Vec). cond (passed (x .0)) (finished rows cols x) x) (rounds-limit (swept rows cols) ended k l (going 0, w) z p (over (eqb (x .0 .answer) 9) refl h));
 }
   where
     x : Answer × Vec

@@ -14,7 +14,7 @@ use Rattle.answers.specs.declared.Answer.{Answer}
 use Rattle.svd.specs.Svd.{checks, ran, svd}
 use Rattle.svd.specs.Exact.{Outcome}
 
-svd-checks-few : (m n u vt limit a b c : ℕ) → checks m n u vt limit a b c .answer ≤ 6
+pub svd-checks-few : (m n u vt limit a b c : ℕ) → checks m n u vt limit a b c .answer ≤ 6
 unfolding checks
 svd-checks-few m n u vt limit a b c = refuse-few (ltb 256 m || ltb 256 n) 1 0 _ (omega arith) (unless-few (limitGood limit) 2 0 _ (omega arith) (lengths-few a _ b _ c _))
 

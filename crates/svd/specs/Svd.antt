@@ -1,4 +1,4 @@
--- `svd` of document 000 with 01's checks: the whole outcome of a call, its three numbers, the work array and the result. Definitions only.
+-- `svd` of document 000 with 01's checks: the whole outcome of a call, its four numbers, the work array and the result. Definitions only.
 use mathlib.Core.Bool.{Bool, true, false, cond, not, _||_}
 use mathlib.Core.List.{List}
 use Prim.Native.Nat.{ℕ, _+_, _*_}
@@ -104,7 +104,7 @@ checks m n wantU wantVt limit a b c =
     cond (ltb 256 m || ltb 256 n) (refused 1 0)
     (cond (limitGood limit) (lengths a (m * n) b (workLength m n) c (decompositionLength m n wantU wantVt)) (refused 2 0))
 
--- the run, over arrays that are all +0.0 before it; 8 and 9 come as it meets them
+-- the run, over arrays that are all +0.0 before it; 8, 9 and 10 come as it meets them
 unfoldable pub ran : ℕ → ℕ → ℕ → ℕ → ℕ → Vec → Vec → Vec → Answer × Vec × Vec
 ran m n wantU wantVt limit matrix work result =
     let x = jacobi (longest m n) (least m n) limit (loaded m n matrix work) in

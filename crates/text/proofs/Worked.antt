@@ -35,8 +35,8 @@ abbrev zero : Float
 zero = ofBits binary64 0
 
 pub answer-written :
-    answerText 0 0 0 2 (one ∷ᴸ two ∷ᴸ zero ∷ᴸ one ∷ᴸ one ∷ᴸ zero ∷ᴸ []ᴸ)
-    ≡ bytes "0 0 0\n3ff0000000000000 4000000000000000\n0000000000000000 3ff0000000000000\n3ff0000000000000 0000000000000000\n"
+    answerText 0 0 0 0 2 (one ∷ᴸ two ∷ᴸ zero ∷ᴸ one ∷ᴸ one ∷ᴸ zero ∷ᴸ []ᴸ)
+    ≡ bytes "0 0 0 0\n3ff0000000000000 4000000000000000\n0000000000000000 3ff0000000000000\n3ff0000000000000 0000000000000000\n"
 unfolding answerText shown bitsAt bits isNan toBits ofBits lines joined group separator number places placesFrom digits glyph
 answer-written = refl
 

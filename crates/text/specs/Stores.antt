@@ -12,7 +12,7 @@ use lib.Dec.{ltb, leb, eqb}
 use lib.ListN.{length, set, length-append}
 use lib.Seq.{sets, set-comm}
 use lib.Ieee.{Float}
-use Rattle.text.specs.Writing.{glyph, digits, placesFrom, places, number, joined, separator, group, lines, written, bitsAt, shown, answerText}
+use Rattle.text.specs.Writing.{glyph, digits, placesFrom, places, number, joined, separator, group, lines, written, bitsAt, shown, firstLine, answerText}
 use Rattle.text.specs.Reading.{wordAt, table, float}
 use Rattle.text.specs.Laws.{digits-length}
 use Rattle.text.specs.AcceptsLaws.{table-length, lines-length}
@@ -161,26 +161,26 @@ append-then s t u vs ws e f = f ∙ ap (λ (x : ℕ × List ℕ). append x ws) e
 pub append-front : (out bytes : List ℕ) → append (0, out) bytes ≡ written bytes out
 append-front out bytes = ap (λ (k : ℕ). (k, sets out 0 bytes)) (zero-add (length bytes))
 
-pub answer-alone : (a p c n : ℕ) (result : List Float) → shown a n ≡ false → answerText a p c n result ≡ number a 32 ++ number p 32 ++ number c 10
+pub answer-alone : (a p i c n : ℕ) (result : List Float) → shown a n ≡ false → answerText a p i c n result ≡ firstLine a p i c
 unfolding answerText
-answer-alone a p c n result e = rw e (append-nil (number a 32 ++ number p 32 ++ number c 10))
+answer-alone a p i c n result e = rw e (append-nil (firstLine a p i c))
 
-pub answer-shown : (a p c n : ℕ) (result : List Float) → shown a n ≡ true
-    → answerText a p c n result ≡ number a 32 ++ number p 32 ++ number c 10 ++ lines n (bitsAt result) (n + n * n)
+pub answer-shown : (a p i c n : ℕ) (result : List Float) → shown a n ≡ true
+    → answerText a p i c n result ≡ firstLine a p i c ++ lines n (bitsAt result) (n + n * n)
 unfolding answerText
-answer-shown a p c n result e = rw e
+answer-shown a p i c n result e = rw e
 
-module _ (a p c n : ℕ) (result : List Float) (out : List ℕ) where
-  pub line-put : (s : ℕ × List ℕ) → shown a n ≡ false → s ≡ append (0, out) (number a 32 ++ number p 32 ++ number c 10) → s ≡ written (answerText a p c n result) out
+module _ (a p i c n : ℕ) (result : List Float) (out : List ℕ) where
+  pub line-put : (s : ℕ × List ℕ) → shown a n ≡ false → s ≡ append (0, out) (firstLine a p i c) → s ≡ written (answerText a p i c n result) out
   line-put s e f =
-      f ∙ append-front out (number a 32 ++ number p 32 ++ number c 10) ∙ ap (λ (x : List ℕ). written x out) (sym (answer-alone a p c n result e))
+      f ∙ append-front out (firstLine a p i c) ∙ ap (λ (x : List ℕ). written x out) (sym (answer-alone a p i c n result e))
 
-  pub answer-put : (s t : ℕ × List ℕ) → shown a n ≡ true → s ≡ append (0, out) (number a 32 ++ number p 32 ++ number c 10)
-      → t ≡ append s (lines n (bitsAt result) (n + n * n)) → t ≡ written (answerText a p c n result) out
+  pub answer-put : (s t : ℕ × List ℕ) → shown a n ≡ true → s ≡ append (0, out) (firstLine a p i c)
+      → t ≡ append s (lines n (bitsAt result) (n + n * n)) → t ≡ written (answerText a p i c n result) out
   answer-put s t e f g =
-      append-then (0, out) s t (number a 32 ++ number p 32 ++ number c 10) (lines n (bitsAt result) (n + n * n)) f g
-      ∙ append-front out (number a 32 ++ number p 32 ++ number c 10 ++ lines n (bitsAt result) (n + n * n))
-      ∙ ap (λ (x : List ℕ). written x out) (sym (answer-shown a p c n result e))
+      append-then (0, out) s t (firstLine a p i c) (lines n (bitsAt result) (n + n * n)) f g
+      ∙ append-front out (firstLine a p i c ++ lines n (bitsAt result) (n + n * n))
+      ∙ ap (λ (x : List ℕ). written x out) (sym (answer-shown a p i c n result e))
 
 -- ---- sizes
 
@@ -196,22 +196,31 @@ shown-size a n = go (eqb a 0) (ltb n 1) refl
 pub words-most : (n : ℕ) → n ≤ 32 → n + n * n ≤ 1056
 words-most n h = omega (arith, mul-le-mul h h)
 
-pub answer-length : (a p c : ℕ) → length (number a 32 ++ number p 32 ++ number c 10) ≤ 63
-answer-length a p c =
-    omega (arith, length-append (number a 32 ++ number p 32) (number c 10), length-append (number a 32) (number p 32), number-most a 32, number-most p 32, number-most c 10)
+pub answer-length : (a p i c : ℕ) → length (firstLine a p i c) ≤ 84
+answer-length a p i c =
+    omega (
+      arith,
+      length-append (number a 32 ++ number p 32 ++ number i 32) (number c 10),
+      length-append (number a 32 ++ number p 32) (number i 32),
+      length-append (number a 32) (number p 32),
+      number-most a 32,
+      number-most p 32,
+      number-most i 32,
+      number-most c 10,
+    )
 
 -- no answer is longer than this
-pub answer-most : (a p c n : ℕ) (result : List Float) → length (answerText a p c n result) ≤ 18015
-answer-most a p c n result = go (shown a n) refl
+pub answer-most : (a p i c n : ℕ) (result : List Float) → length (answerText a p i c n result) ≤ 18036
+answer-most a p i c n result = go (shown a n) refl
   where
-    go : (b : Bool) → shown a n ≡ b → length (answerText a p c n result) ≤ 18015
+    go : (b : Bool) → shown a n ≡ b → length (answerText a p i c n result) ≤ 18036
     go true e =
-        rw (answer-shown a p c n result e)
+        rw (answer-shown a p i c n result e)
         (omega (
           arith,
-          length-append (number a 32 ++ number p 32 ++ number c 10) (lines n (bitsAt result) (n + n * n)),
-          answer-length a p c,
+          length-append (firstLine a p i c) (lines n (bitsAt result) (n + n * n)),
+          answer-length a p i c,
           lines-length n (bitsAt result) (n + n * n),
           words-most n (shown-size a n e .1),
         ))
-    go false e = rw (answer-alone a p c n result e) (omega (arith, answer-length a p c))
+    go false e = rw (answer-alone a p i c n result e) (omega (arith, answer-length a p i c))

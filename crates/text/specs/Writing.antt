@@ -66,10 +66,13 @@ bitsAt result k = bits (getD result k nan)
 unfoldable pub shown : ℕ → ℕ → Bool
 shown answer n = cond (eqb answer 0) (cond (ltb n 1) false (leb n 32)) false
 
--- the line "answer place count", and where they are shown the n values on a line and the vectors row by row
-unfoldable pub answerText : ℕ → ℕ → ℕ → ℕ → List Float → List ℕ
-answerText answer place count n result =
-    number answer 32 ++ number place 32 ++ number count 10 ++ cond (shown answer n) (lines n (bitsAt result) (n + n * n)) []
+-- the line "answer place index count"
+abbrev pub firstLine : ℕ → ℕ → ℕ → ℕ → List ℕ
+firstLine answer place index count = number answer 32 ++ number place 32 ++ number index 32 ++ number count 10
+
+-- that line, and where they are shown the n values on a line and the vectors row by row
+unfoldable pub answerText : ℕ → ℕ → ℕ → ℕ → ℕ → List Float → List ℕ
+answerText answer place index count n result = firstLine answer place index count ++ cond (shown answer n) (lines n (bitsAt result) (n + n * n)) []
 
 -- "bad text" and a line feed
 unfoldable pub badText : List ℕ

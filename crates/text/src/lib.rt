@@ -6,7 +6,7 @@ ghost use mathlib.Core.List.{_++_};
 ghost use Prim.Native.Nat.{_+_, _*_, _<_, _≤_};
 ghost use lib.ListN.{set};
 ghost use lib.Seq.{sets};
-ghost use Rattle.text.specs.Writing.{glyph, digits, places, number, separator, group, lines, written, bits, bitsAt, shown, answerText, badText};
+ghost use Rattle.text.specs.Writing.{glyph, digits, places, number, separator, group, lines, written, bits, bitsAt, shown, firstLine, answerText, badText};
 ghost use Rattle.text.specs.Reading.{byte, value, numberAt, limitOf, head, every, digitAt, groupAt, wordAt, table, float, wordsRead, reading, outcome};
 ghost use Rattle.text.specs.Stores.{append, floatAt};
 
@@ -327,7 +327,7 @@ fn put_word(out: &mut [u8], at: usize, n: usize, k: usize, result: &[f64])
 
 // The first count words of a result, n a line, from `at` on; the place behind them.
 fn put_lines(out: &mut [u8], at: usize, n: usize, count: usize, result: &[f64]) -> usize
-    requires { ⌜ (at ≤ 63) × (0 < n) × (count ≤ 1056) ⌝ }
+    requires { ⌜ (at ≤ 84) × (0 < n) × (count ≤ 1056) ⌝ }
     ensures { λ r. ⌜ (r, now (out .exit)) ≡ append (at, now (out .entry)) (lines n (bitsAt (now (result .entry))) count) ⌝ }
 {
     for k in 0..count {
@@ -336,13 +336,14 @@ fn put_lines(out: &mut [u8], at: usize, n: usize, count: usize, result: &[f64]) 
     at + 17 * count
 }
 
-// The line of an answer's three numbers; the place behind it.
-fn put_answer(out: &mut [u8], answer: usize, place: usize, count: usize) -> usize
-    ensures { λ r. ⌜ (r, now (out .exit)) ≡ append (0, now (out .entry)) (number answer 32 ++ number place 32 ++ number count 10) ⌝ }
+// The line of an answer's four numbers; the place behind it.
+fn put_answer(out: &mut [u8], answer: usize, place: usize, index: usize, count: usize) -> usize
+    ensures { λ r. ⌜ (r, now (out .exit)) ≡ append (0, now (out .entry)) (firstLine answer place index count) ⌝ }
 {
     let a = put_number(out, 0, answer, b' ');
     let b = put_number(out, a, place, b' ');
-    put_number(out, b, count, b'\n')
+    let c = put_number(out, b, index, b' ');
+    put_number(out, c, count, b'\n')
 }
 
 // Values and vectors are shown where the answer is 0 and there are any. A text has no n above 32.
@@ -362,14 +363,15 @@ fn shown(answer: usize, n: usize) -> bool
 pub fn write(
     answer: usize,
     place: usize,
+    index: usize,
     count: usize,
     n: usize,
     result: &[f64],
     out: &mut [u8],
 ) -> usize
-    ensures { λ r. ⌜ (r, now (out .exit)) ≡ written (answerText answer place count n (now (result .entry))) (now (out .entry)) ⌝ }
+    ensures { λ r. ⌜ (r, now (out .exit)) ≡ written (answerText answer place index count n (now (result .entry))) (now (out .entry)) ⌝ }
 {
-    let at = put_answer(out, answer, place, count);
+    let at = put_answer(out, answer, place, index, count);
     if !shown(answer, n) {
         return at;
     }

@@ -9,14 +9,11 @@ use Rattle.answers.proofs.refuse.Tie as tie
 fill-requires : tie.Need-fill-requires
 fill-requires c κs = search needs
 
-refused-requires : tie.Need-refused-requires
-refused-requires c κs = search needs
-
 same-length : tie.Need-same-length
 same-length c = omega arith
 
 returns : tie.Need-returns
-returns c = rw (c .before .before .before .fill .ensures, c .refused .ensures)
+returns c = rw (c .before .before .fill .ensures)
 
 pub refuse-spec : {M : Type 1} → statement M
-refuse-spec = tie.close (tie.spec fill-requires refused-requires same-length returns)
+refuse-spec = tie.close (tie.spec fill-requires same-length returns)

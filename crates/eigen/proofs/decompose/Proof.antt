@@ -12,8 +12,8 @@ columns-requires c κs = search needs
 tred2-requires : tie.Need-tred2-requires
 tred2-requires c κs = search needs
 
-marked-requires : tie.Need-marked-requires
-marked-requires c κs = search needs
+after-tred-requires : tie.Need-after-tred-requires
+after-tred-requires c κs = search needs
 
 same-length : tie.Need-same-length
 same-length c = omega arith
@@ -26,7 +26,7 @@ same-length-3 c = omega arith
 
 returns : tie.Need-returns
 unfolding decomposed
-returns c = rw (← c .before .before .before .before .before .before .before .before .before .before .before .before .before .before .before .before .before .before .before .before .before .before .columns .ensures, ← c .before .before .before .before .before .before .before .before .before .before .before .before .before .before .before .before .tred2 .ensures) (c .before .before .before .before .before .before .marked .ensures)
+returns c = rw (← c .before .before .before .before .before .before .before .before .before .before .before .before .before .before .before .before .before .before .before .before .before .before .columns .ensures, ← c .before .before .before .before .before .before .before .before .before .before .before .before .before .before .before .before .tred2 .ensures) (c .before .before .before .before .before .before .after-tred .ensures)
 
 pub decompose-spec : {M : Type 1} → statement M
 decompose-spec =
@@ -34,7 +34,7 @@ decompose-spec =
     (tie.spec
     columns-requires
     tred2-requires
-    marked-requires
+    after-tred-requires
     same-length
     same-length-2
     same-length-3

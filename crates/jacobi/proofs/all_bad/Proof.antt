@@ -1,8 +1,10 @@
 -- Generated from the answers file beside it by tools/prove/prove.py: edit that.
 -- `jacobi::all_bad` meets its contract.
 use borrow.Author.Needs.{needs}
-use Rattle.jacobi.specs.Jacobi.{allBad}
-use native.Mathlib.Nat.{add-sub-cancel-left, add-zero}
+use denote.Ref.{now}
+use native.Mathlib.Nat.{add-sub-cancel-left}
+use Rattle.jacobi.specs.Jacobi.{factorsBad, allBad}
+use Rattle.jacobi.proofs.Marks.{all-room, all-first, all-second}
 use Rattle.jacobi.proofs.all_bad.Statement.{statement}
 use Rattle.jacobi.proofs.all_bad.Tie as tie
 
@@ -38,14 +40,18 @@ is-bad-requires c κs = search needs
 
 returns : tie.Need-returns
 unfolding allBad
-returns c = rw (add-zero, ← (rw add-sub-cancel-left at (c .before .before .first-bad .ensures)), ← c .before .is-bad .ensures, c .if1 .taken)
+returns c = all-first (c .before .before .before .before .before .args .rows) (c .before .before .before .before .before .args .cols) (now (c .before .before .before .before .before .args .w)) (c .before .before .before .before .before .pre) _ (rw add-sub-cancel-left at (c .before .before .first-bad .ensures)) (c .before .is-bad .ensures) (c .if1 .taken)
 
 factors-bad-requires : tie.Need-factors-bad-requires
 factors-bad-requires c κs = search needs
 
+behind-requires : tie.Need-behind-requires
+unfolding factorsBad
+behind-requires c κs = all-room (c .before .before .before .before .before .before .args .rows) (c .before .before .before .before .before .before .args .cols) (now (c .before .before .before .before .before .before .args .w)) (c .before .before .before .before .before .before .pre) _ (c .factors-bad .ensures)
+
 returns-2 : tie.Need-returns-2
-unfolding allBad
-returns-2 c = rw (add-zero, ← (rw add-sub-cancel-left at (c .before .before .before .first-bad .ensures)), ← c .before .before .is-bad .ensures, c .before .if1 .left) (c .factors-bad .ensures)
+unfolding factorsBad allBad
+returns-2 c = all-second (c .before .before .before .before .before .before .before .args .rows) (c .before .before .before .before .before .before .before .args .cols) (now (c .before .before .before .before .before .before .before .args .w)) (c .before .before .before .before .before .before .before .pre) _ _ _ (rw add-sub-cancel-left at (c .before .before .before .before .first-bad .ensures)) (c .before .before .before .is-bad .ensures) (c .before .before .if1 .left) (c .before .factors-bad .ensures) (c .behind .ensures)
 
 pub all-bad-spec : {M : Type 1} → statement M
 all-bad-spec =
@@ -63,4 +69,5 @@ all-bad-spec =
     is-bad-requires
     returns
     factors-bad-requires
+    behind-requires
     returns-2)

@@ -4,9 +4,11 @@ use mathlib.Core.Path.{sym}
 use Prim.Native.Nat.{_*_}
 use native.Mathlib.Omega.{arith}
 use borrow.Author.Needs.{needs}
-use Rattle.jacobi.specs.Jacobi.{factorsBad}
+use denote.Ref.{now}
 use lib.Seq.{length-take-le}
 use native.Mathlib.Nat.{add-sub-cancel-left}
+use Rattle.jacobi.specs.Jacobi.{factorsBad}
+use Rattle.jacobi.proofs.Marks.{factors-room, factors-first, factors-second}
 use Rattle.jacobi.proofs.factors_bad.Statement.{statement}
 use Rattle.jacobi.proofs.factors_bad.Tie as tie
 
@@ -24,7 +26,7 @@ is-bad-requires c κs = search needs
 
 returns : tie.Need-returns
 unfolding factorsBad
-returns c = rw (← c .before .before .first-bad-cell .ensures, ← c .before .is-bad .ensures, c .if1 .taken)
+returns c = factors-first (c .before .before .before .before .before .args .rows) (c .before .before .before .before .before .args .cols) (now (c .before .before .before .before .before .args .w)) (c .before .before .before .before .before .pre) _ (c .before .before .first-bad-cell .ensures) (c .before .is-bad .ensures) (c .if1 .taken)
 
 mul-first-bad-cell : tie.Need-mul-first-bad-cell
 mul-first-bad-cell c = search needs
@@ -47,9 +49,12 @@ part-first-bad-cell-end c = search needs
 first-bad-cell-requires-2 : tie.Need-first-bad-cell-requires-2
 first-bad-cell-requires-2 c κs = search needs
 
+behind-requires : tie.Need-behind-requires
+behind-requires c κs = factors-room (c .before .before .before .before .before .before .before .args .rows) (c .before .before .before .before .before .before .before .args .cols) (now (c .before .before .before .before .before .before .before .args .w)) (c .before .before .before .before .before .before .before .pre) _ (rw add-sub-cancel-left at (c .first-bad-cell2 .ensures))
+
 returns-2 : tie.Need-returns-2
 unfolding factorsBad
-returns-2 c = rw (← c .before .before .before .before .first-bad-cell .ensures, ← c .before .before .before .is-bad .ensures, c .before .before .if1 .left) (rw add-sub-cancel-left at (c .first-bad-cell2 .ensures))
+returns-2 c = factors-second (c .before .before .before .before .before .before .before .before .args .rows) (c .before .before .before .before .before .before .before .before .args .cols) (now (c .before .before .before .before .before .before .before .before .args .w)) (c .before .before .before .before .before .before .before .before .pre) _ _ _ (c .before .before .before .before .before .first-bad-cell .ensures) (c .before .before .before .before .is-bad .ensures) (c .before .before .before .if1 .left) (rw add-sub-cancel-left at (c .before .first-bad-cell2 .ensures)) (c .behind .ensures)
 
 pub factors-bad-spec : {M : Type 1} → statement M
 factors-bad-spec =
@@ -67,4 +72,5 @@ factors-bad-spec =
     part-first-bad-cell-start
     part-first-bad-cell-end
     first-bad-cell-requires-2
+    behind-requires
     returns-2)

@@ -8,12 +8,12 @@ use Rattle.jacobi.proofs.verdict.Tie as tie
 is-bad-requires : tie.Need-is-bad-requires
 is-bad-requires c κs = search needs
 
-answered-requires : tie.Need-answered-requires
-answered-requires c κs = search needs
+marked-requires : tie.Need-marked-requires
+marked-requires c κs = search needs
 
 returns : tie.Need-returns
 unfolding verdict
-returns c = rw (← c .before .before .is-bad .ensures, c .before .if1 .taken) (c .answered .ensures)
+returns c = rw (← c .before .before .is-bad .ensures, c .before .if1 .taken) (c .marked .ensures)
 
 going-requires : tie.Need-going-requires
 going-requires c κs = search needs
@@ -34,7 +34,7 @@ verdict-spec =
     tie.close
     (tie.spec
     is-bad-requires
-    answered-requires
+    marked-requires
     returns
     going-requires
     returns-2

@@ -1,17 +1,17 @@
 -- Generated from the answers file beside it by tools/prove/prove.py: edit that.
 -- `leaves::first_bad_cell` meets its contract.
+use mathlib.Core.Path.{_∙_}
 use native.Mathlib.Omega.{arith}
 use lib.ListN.{length}
 use denote.Ref.{now}
 use native.Mathlib.Nat.{div-mul-le-self}
-use Rattle.leaves.specs.Scan.{firstBadCell}
+use Rattle.leaves.specs.ScanLaws.{by-rows}
 use Rattle.leaves.proofs.Search.{no-column}
 use Rattle.leaves.proofs.first_bad_cell.Statement.{statement}
 use Rattle.leaves.proofs.first_bad_cell.Tie as tie
 
 returns : tie.Need-returns
-unfolding firstBadCell
-returns c = no-column _ _ _ (c .if1 .taken)
+returns c = no-column _ _ _ (c .if1 .taken) ∙ by-rows (c .before .before .args .cols) (now (c .before .before .args .v))
 
 div-first-bad-of : tie.Need-div-first-bad-of
 div-first-bad-of c = omega arith
@@ -20,8 +20,7 @@ first-bad-of-requires : tie.Need-first-bad-of-requires
 first-bad-of-requires c κs = omega (arith, div-mul-le-self (length (now (c .before .before .args .v))) (c .before .before .args .cols))
 
 returns-2 : tie.Need-returns-2
-unfolding firstBadCell
-returns-2 c = c .first-bad-of .ensures
+returns-2 c = c .first-bad-of .ensures ∙ by-rows (c .before .before .before .args .cols) (now (c .before .before .before .args .v))
 
 pub first-bad-cell-spec : {M : Type 1} → statement M
 first-bad-cell-spec = tie.close (tie.spec returns div-first-bad-of first-bad-of-requires returns-2)

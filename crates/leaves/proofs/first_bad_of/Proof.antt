@@ -4,16 +4,15 @@ use mathlib.Core.Path.{_≡_, _∙_, refl, ap}
 use Prim.Native.Nat.{_-_, _*_, _≤_}
 use native.Mathlib.Omega.{arith}
 use borrow.Author.Needs.{needs}
-use Rattle.grid.specs.Loop.{first}
-use Rattle.grid.specs.LoopLaws.{first-next}
-use Rattle.leaves.specs.Scan.{cellBad, placeOf, firstBadOf}
-use Rattle.leaves.specs.ScanLaws.{after}
-use Rattle.leaves.proofs.Search.{found-here, found-none, after-place, start-place, place-low, place-within}
+use denote.Ref.{now}
+use Rattle.leaves.specs.Scan.{cellAt, placeOf}
+use Rattle.leaves.specs.ScanLaws.{after, firstBadOf}
+use Rattle.leaves.proofs.Search.{Left, left-more, found-here, found-none, after-place, start-place, place-low, place-within}
 use Rattle.leaves.proofs.first_bad_of.Statement.{statement}
 use Rattle.leaves.proofs.first_bad_of.Tie as tie
 
 abbrev Inv-loop : tie.InvT-loop
-Inv-loop rows cols v p₀ k₀ k-end p k = (k ≤ rows * cols) × (p ≡ placeOf cols k) × (first (cellBad rows cols v) k (rows * cols) ≡ first (cellBad rows cols v) 0 (rows * cols))
+Inv-loop rows cols v p₀ k₀ k-end p k = (k ≤ rows * cols) × (p ≡ placeOf cols k) × Left (cellAt rows cols v) k (rows * cols)
 
 abbrev μ-loop : tie.MeasureT-loop
 μ-loop rows cols v p₀ k₀ k-end p k = rows * cols - k
@@ -36,9 +35,12 @@ at1-requires c κs = omega (arith, place-within (c .before .before .before .befo
 is-finite-requires : tie.Need-is-finite-requires Inv-loop μ-loop
 is-finite-requires c κs = search needs
 
+class-of-requires : tie.Need-class-of-requires Inv-loop μ-loop
+class-of-requires c κs = search needs
+
 returns : tie.Need-returns Inv-loop μ-loop
 unfolding firstBadOf
-returns c = found-here _ _ _ (omega arith) (rw (← c .before .before .before .before .before .before .loop .inv .1, ← c .before .before .at1 .ensures, ← c .before .is-finite .ensures) (c .if1 .taken)) (c .before .before .before .before .before .before .loop .inv .2)
+returns c = found-here (cellAt (c .before .before .before .before .before .before .before .before .before .args .rows) (c .before .before .before .before .before .before .before .before .before .args .cols) (now (c .before .before .before .before .before .before .before .before .before .args .v))) (c .before .before .before .before .before .before .before .loop .k) (c .before .before .before .before .before .before .before .before .before .args .rows * c .before .before .before .before .before .before .before .before .before .args .cols) (omega arith) (rw (← c .before .before .before .before .before .before .before .loop .inv .1, ← c .before .before .before .at1 .ensures, ← c .before .before .is-finite .ensures) (c .before .if1 .taken)) (rw (← c .before .before .before .before .before .before .before .loop .inv .1, ← c .before .before .before .at1 .ensures) (c .class-of .ensures)) (c .before .before .before .before .before .before .before .loop .inv .2)
 
 after-requires : tie.Need-after-requires Inv-loop μ-loop
 after-requires c κs = omega (arith, place-low (c .before .before .before .before .before .before .before .before .args .cols) (c .before .before .before .before .before .before .loop .k) (c .before .before .before .before .before .before .loop .inv .1))
@@ -50,11 +52,11 @@ loop-less : tie.Need-loop-less Inv-loop μ-loop
 loop-less c = omega arith
 
 loop-again : tie.Need-loop-again Inv-loop μ-loop
-loop-again c = (omega arith, c .after .ensures ∙ ap (after (c .before .before .before .before .before .before .before .before .before .args .cols)) (c .before .before .before .before .before .before .before .loop .inv .1) ∙ after-place (c .before .before .before .before .before .before .before .before .before .args .cols) (c .before .before .before .before .before .before .before .loop .k), first-next _ _ _ (omega arith) (rw (← c .before .before .before .before .before .before .before .loop .inv .1, ← c .before .before .before .at1 .ensures, ← c .before .before .is-finite .ensures) (c .before .if1 .left)) (c .before .before .before .before .before .before .before .loop .inv .2))
+loop-again c = (omega arith, c .after .ensures ∙ ap (after (c .before .before .before .before .before .before .before .before .before .args .cols)) (c .before .before .before .before .before .before .before .loop .inv .1) ∙ after-place (c .before .before .before .before .before .before .before .before .before .args .cols) (c .before .before .before .before .before .before .before .loop .k), left-more (cellAt (c .before .before .before .before .before .before .before .before .before .args .rows) (c .before .before .before .before .before .before .before .before .before .args .cols) (now (c .before .before .before .before .before .before .before .before .before .args .v))) (c .before .before .before .before .before .before .before .loop .k) (c .before .before .before .before .before .before .before .before .before .args .rows * c .before .before .before .before .before .before .before .before .before .args .cols) (omega arith) (rw (← c .before .before .before .before .before .before .before .loop .inv .1, ← c .before .before .before .at1 .ensures, ← c .before .before .is-finite .ensures) (c .before .if1 .left)) (c .before .before .before .before .before .before .before .loop .inv .2))
 
 returns-2 : tie.Need-returns-2 Inv-loop μ-loop
 unfolding firstBadOf
-returns-2 c = found-none _ _ _ (omega arith) (c .before .loop .inv .2)
+returns-2 c = found-none (cellAt (c .before .before .before .args .rows) (c .before .before .before .args .cols) (now (c .before .before .before .args .v))) (c .before .loop .k) (c .before .before .before .args .rows * c .before .before .before .args .cols) (omega arith) (c .before .loop .inv .2)
 
 pub first-bad-of-spec : {M : Type 1} → statement M
 first-bad-of-spec =
@@ -68,6 +70,7 @@ first-bad-of-spec =
     add-at1
     at1-requires
     is-finite-requires
+    class-of-requires
     returns
     after-requires
     add-k

@@ -8,24 +8,15 @@ use Rattle.pass.proofs.verdict.Tie as tie
 mark1-requires : tie.Need-mark1-requires
 mark1-requires c κs = search needs
 
+settled-requires : tie.Need-settled-requires
+settled-requires c κs = search needs
+
+judged-requires : tie.Need-judged-requires
+judged-requires c κs = search needs
+
 returns : tie.Need-returns
 unfolding verdict
-returns c = rw (← c .before .mark1 .ensures, c .if1 .taken)
-
-at1-requires : tie.Need-at1-requires
-at1-requires c κs = search needs
-
-magnitude-requires : tie.Need-magnitude-requires
-magnitude-requires c κs = search needs
-
-returns-2 : tie.Need-returns-2
-unfolding verdict
-returns-2 c = rw (← c .before .before .before .before .mark1 .ensures, c .before .before .before .if1 .left, ← c .before .before .at1 .ensures, ← c .before .magnitude .ensures, c .if2 .taken)
-
-returns-3 : tie.Need-returns-3
-unfolding verdict
-returns-3 c = rw (← c .before .before .before .before .mark1 .ensures, c .before .before .before .if1 .left, ← c .before .before .at1 .ensures, ← c .before .magnitude .ensures, c .if2 .left)
+returns c = rw (← c .before .before .mark1 .ensures, ← c .before .settled .ensures) (c .judged .ensures)
 
 pub verdict-spec : {M : Type 1} → statement M
-verdict-spec =
-    tie.close (tie.spec mark1-requires returns at1-requires magnitude-requires returns-2 returns-3)
+verdict-spec = tie.close (tie.spec mark1-requires settled-requires judged-requires returns)

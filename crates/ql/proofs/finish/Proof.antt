@@ -19,13 +19,16 @@ answered-requires-2 c κs = search needs
 
 returns-2 : tie.Need-returns-2
 unfolding finished
-returns-2 c = λ e. rw (ne-eqb _ _ (c .before .before .before .if1 .left), eq-eqb _ _ (c .before .if2 .taken), c .answered2 .ensures)
+returns-2 c = λ e. rw (ne-eqb _ _ (c .before .before .before .if1 .left), ne-eqb _ _ (c .before .if2 .taken), c .answered2 .ensures)
 
 mark2-requires : tie.Need-mark2-requires
 mark2-requires c κs = search needs
 
-answered-requires-3 : tie.Need-answered-requires-3
-answered-requires-3 c κs = search needs
+is-bad-requires : tie.Need-is-bad-requires
+is-bad-requires c κs = search needs
+
+marked-requires : tie.Need-marked-requires
+marked-requires c κs = search needs
 
 same-length : tie.Need-same-length
 same-length c = omega arith
@@ -35,7 +38,7 @@ same-length-2 c = omega arith
 
 returns-3 : tie.Need-returns-3
 unfolding finished
-returns-3 c = λ e. rw (ne-eqb _ _ (c .before .before .before .before .before .before .before .if1 .left), ne-eqb _ _ (c .before .before .before .before .before .if2 .left), ← c .before .before .mark2 .ensures, c .before .if3 .taken, c .answered3 .ensures)
+returns-3 c = λ e. rw (ne-eqb _ _ (c .before .before .before .before .before .before .before .before .if1 .left), eq-eqb _ _ (c .before .before .before .before .before .before .if2 .left), ← c .before .before .before .mark2 .ensures, ← c .before .before .is-bad .ensures, c .before .if3 .taken, c .marked .ensures)
 
 sort-requires : tie.Need-sort-requires
 sort-requires c κs = search needs
@@ -51,7 +54,7 @@ same-length-4 c = omega arith
 
 returns-4 : tie.Need-returns-4
 unfolding finished
-returns-4 c = λ e. rw (ne-eqb _ _ (c .before .before .before .before .before .before .before .before .before .before .before .before .before .before .if1 .left), ne-eqb _ _ (c .before .before .before .before .before .before .before .before .before .before .before .before .if2 .left), ← c .before .before .before .before .before .before .before .before .before .mark2 .ensures, c .before .before .before .before .before .before .before .before .if3 .left, ← c .before .before .before .before .before .sort .ensures, c .done .ensures)
+returns-4 c = λ e. rw (ne-eqb _ _ (c .before .before .before .before .before .before .before .before .before .before .before .before .before .before .before .if1 .left), eq-eqb _ _ (c .before .before .before .before .before .before .before .before .before .before .before .before .before .if2 .left), ← c .before .before .before .before .before .before .before .before .before .before .mark2 .ensures, ← c .before .before .before .before .before .before .before .before .before .is-bad .ensures, c .before .before .before .before .before .before .before .before .if3 .left, ← c .before .before .before .before .before .sort .ensures, c .done .ensures)
 
 pub finish-spec : {M : Type 1} → statement M
 finish-spec =
@@ -62,7 +65,8 @@ finish-spec =
     answered-requires-2
     returns-2
     mark2-requires
-    answered-requires-3
+    is-bad-requires
+    marked-requires
     same-length
     same-length-2
     returns-3

@@ -41,13 +41,13 @@ pass-requires : tie.Need-pass-requires Inv-loop μ-loop
 pass-requires c κs = omega (arith, c .before .before .before .before .before .before .before .before .before .before .before .pre .1 .below (c .before .before .before .before .before .before .if1 .left))
 
 same-length : tie.Need-same-length Inv-loop μ-loop
-same-length c = omega arith
+same-length c = omega (arith, c .before .before .before .before .before .before .before .before .before .before .before .before .before .before .before .before .before .before .before .before .pre .2, c .before .before .before .before .before .before .before .before .before .before .before .before .before .before .loop .inv .4)
 
 same-length-2 : tie.Need-same-length-2 Inv-loop μ-loop
-same-length-2 c = omega arith
+same-length-2 c = omega (arith, c .before .before .before .before .before .before .before .before .before .before .before .before .before .before .before .before .before .before .before .before .pre .2, c .before .before .before .before .before .before .before .before .before .before .before .before .before .before .loop .inv .4)
 
 same-length-3 : tie.Need-same-length-3 Inv-loop μ-loop
-same-length-3 c = omega arith
+same-length-3 c = omega (arith, c .before .before .before .before .before .before .before .before .before .before .before .before .before .before .before .before .before .before .before .before .pre .2, c .before .before .before .before .before .before .before .before .before .before .before .before .before .before .loop .inv .4)
 
 returns-2 : tie.Need-returns-2 Inv-loop μ-loop
 unfolding iterated
@@ -60,13 +60,13 @@ loop-again : tie.Need-loop-again Inv-loop μ-loop
 loop-again c = let p = one-pass _ _ _ (c .before .before .before .before .before .before .before .before .pass .ensures) in (p .l ∙ c .before .before .before .before .before .before .before .before .before .before .before .before .before .before .loop .inv .0, p .m ∙ c .before .before .before .before .before .before .before .before .before .before .before .before .before .before .loop .inv .1, omega arith, omega arith, omega arith, again _ _ _ _ (c .before .before .before .before .before .before .before .before .before .before .before .before .if2 .taken) (c .before .before .before .before .before .before .before .before .pass .ensures) (ap not (eq-eqb _ _ (c .if3 .left))) (c .before .before .before .before .before .before .before .before .before .before .before .before .before .before .loop .inv .5))
 
 same-length-4 : tie.Need-same-length-4 Inv-loop μ-loop
-same-length-4 c = omega arith
+same-length-4 c = omega (arith, c .before .before .before .before .before .before .before .before .pre .2, c .before .before .loop .inv .4)
 
 same-length-5 : tie.Need-same-length-5 Inv-loop μ-loop
-same-length-5 c = omega arith
+same-length-5 c = omega (arith, c .before .before .before .before .before .before .before .before .pre .2, c .before .before .loop .inv .4)
 
 same-length-6 : tie.Need-same-length-6 Inv-loop μ-loop
-same-length-6 c = omega arith
+same-length-6 c = omega (arith, c .before .before .before .before .before .before .before .before .pre .2, c .before .before .loop .inv .4)
 
 returns-3 : tie.Need-returns-3 Inv-loop μ-loop
 unfolding iterated

@@ -16,7 +16,7 @@ use Rattle.qr.proofs.columns.Statement.{statement}
 use Rattle.qr.proofs.columns.Tie as tie
 
 abbrev Inv-loop : tie.InvT-loop
-Inv-loop m k b₀ c₀ q₀ r₀ j₀ b c q r j = (j ≤ k) × (length b ≡ length b₀) × (length c ≡ length c₀) × (length q ≡ length q₀) × (r .answer ≡ 0) × ((r, q) ≡ upto (columnStep m k) 0 j (answered 0 0 0, q₀))
+Inv-loop m k b₀ c₀ q₀ r₀ j₀ b c q r j = (j ≤ k) × (length b ≡ length b₀) × (length c ≡ length c₀) × (length q ≡ length q₀) × (r .answer ≡ 0) × ((r, q) ≡ upto (columnStep m k) 0 j (answered 0 0 0 0, q₀))
 
 abbrev μ-loop : tie.MeasureT-loop
 μ-loop m k b₀ c₀ q₀ r₀ j₀ b c q r j = k - j
@@ -41,7 +41,7 @@ same-length-3 c = omega arith
 
 returns : tie.Need-returns Inv-loop μ-loop
 unfolding columns
-returns c = stays (columnStep (c .before .before .before .before .before .before .before .before .before .before .before .before .before .before .before .before .before .before .args .m) (c .before .before .before .before .before .before .before .before .before .before .before .before .before .before .before .before .before .before .args .k)) 0 (answered 0 0 0, now (c .before .before .before .before .before .before .before .before .before .before .before .before .before .before .before .before .before .before .args .q)) (λ i. rw (ne-eqb _ 0 (c .if1 .taken))) (c .before .before .before .before .before .before .before .before .before .before .before .before .before .loop .j + 1) (c .before .before .before .before .before .before .before .before .before .before .before .before .before .before .before .before .before .before .args .k) (omega arith) (omega arith) (next _ _ _ _ (omega arith) (c .before .before .before .before .before .before .before .before .before .before .before .before .before .loop .inv .5) (rw (eq-eqb _ 0 (c .before .before .before .before .before .before .before .before .before .before .before .before .before .loop .inv .4)) (c .before .before .before .before .before .before .before .before .column .ensures)))
+returns c = stays (columnStep (c .before .before .before .before .before .before .before .before .before .before .before .before .before .before .before .before .before .before .args .m) (c .before .before .before .before .before .before .before .before .before .before .before .before .before .before .before .before .before .before .args .k)) 0 (answered 0 0 0 0, now (c .before .before .before .before .before .before .before .before .before .before .before .before .before .before .before .before .before .before .args .q)) (λ i. rw (ne-eqb _ 0 (c .if1 .taken))) (c .before .before .before .before .before .before .before .before .before .before .before .before .before .loop .j + 1) (c .before .before .before .before .before .before .before .before .before .before .before .before .before .before .before .before .before .before .args .k) (omega arith) (omega arith) (next _ _ _ _ (omega arith) (c .before .before .before .before .before .before .before .before .before .before .before .before .before .loop .inv .5) (rw (eq-eqb _ 0 (c .before .before .before .before .before .before .before .before .before .before .before .before .before .loop .inv .4)) (c .before .before .before .before .before .before .before .before .column .ensures)))
 
 add-j : tie.Need-add-j Inv-loop μ-loop
 add-j c = omega arith

@@ -28,6 +28,12 @@ returns : tie.Need-returns
 unfolding finished
 returns c = rw (← c .before .before .before .before .before .before .before .before .before .before .before .is-finite .ensures, c .before .before .before .before .before .before .before .before .before .before .if1 .taken, ← c .before .before .before .before .before .before .before .before .normalise .ensures, ← c .before .before .before .put-column .ensures, c .done .ensures)
 
+class-of-requires : tie.Need-class-of-requires
+class-of-requires c κs = search needs
+
+answered-requires : tie.Need-answered-requires
+answered-requires c κs = search needs
+
 refuse-requires : tie.Need-refuse-requires
 refuse-requires c κs = search needs
 
@@ -36,7 +42,7 @@ same-length-3 c = omega arith
 
 returns-2 : tie.Need-returns-2
 unfolding finished
-returns-2 c = rw (← c .before .before .before .before .before .is-finite .ensures, c .before .before .before .before .if1 .left) (c .before .before .refuse .ensures)
+returns-2 c = rw (← c .before .before .before .before .before .before .before .is-finite .ensures, c .before .before .before .before .before .before .if1 .left, ← c .before .before .before .before .before .class-of .ensures, ← c .before .before .before .before .answered .ensures) (c .before .before .refuse .ensures)
 
 pub finish-spec : {M : Type 1} → statement M
 finish-spec =
@@ -49,6 +55,8 @@ finish-spec =
     same-length
     same-length-2
     returns
+    class-of-requires
+    answered-requires
     refuse-requires
     same-length-3
     returns-2)

@@ -23,6 +23,9 @@ same-length c = omega arith
 returns : tie.Need-returns
 returns c = rw (← c .before .before .before .before .before .before .first-bad .ensures, c .before .before .before .before .enum-told .given .1) (c .before .before .run .ensures)
 
+refused-requires : tie.Need-refused-requires
+refused-requires c κs = search needs
+
 refuse-requires : tie.Need-refuse-requires
 refuse-requires c κs = search needs
 
@@ -30,7 +33,7 @@ same-length-2 : tie.Need-same-length-2
 same-length-2 c = omega arith
 
 returns-2 : tie.Need-returns-2
-returns-2 c = rw (← c .before .before .before .before .before .before .before .first-bad .ensures, c .before .before .before .before .before .i .given .1) (c .before .before .refuse .ensures)
+returns-2 c = rw (← c .before .before .before .before .before .before .before .before .first-bad .ensures, c .before .before .before .before .before .before .i .given .1) (rw (← c .before .before .before .before .refused .ensures) (c .before .before .refuse .ensures))
 
 pub scanned-spec : {M : Type 1} → statement M
 scanned-spec =
@@ -42,6 +45,7 @@ scanned-spec =
     run-requires
     same-length
     returns
+    refused-requires
     refuse-requires
     same-length-2
     returns-2)

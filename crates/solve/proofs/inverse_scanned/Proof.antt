@@ -13,14 +13,17 @@ enum-known-i c = search needs
 enum-told : tie.Need-enum-told
 enum-told c = search needs
 
-inverse-marked-requires : tie.Need-inverse-marked-requires
-inverse-marked-requires c κs = search needs
+inverse-looked-requires : tie.Need-inverse-looked-requires
+inverse-looked-requires c κs = search needs
 
 same-length : tie.Need-same-length
 same-length c = search needs
 
 returns : tie.Need-returns
-returns c = rw (← c .before .before .before .before .before .before .first-bad .ensures, c .before .before .before .before .enum-told .given .1) (c .before .before .inverse-marked .ensures)
+returns c = rw (← c .before .before .before .before .before .before .first-bad .ensures, c .before .before .before .before .enum-told .given .1) (c .before .before .inverse-looked .ensures)
+
+refused-requires : tie.Need-refused-requires
+refused-requires c κs = search needs
 
 refuse-requires : tie.Need-refuse-requires
 refuse-requires c κs = search needs
@@ -29,7 +32,7 @@ same-length-2 : tie.Need-same-length-2
 same-length-2 c = search needs
 
 returns-2 : tie.Need-returns-2
-returns-2 c = rw (← c .before .before .before .before .before .before .before .first-bad .ensures, c .before .before .before .before .before .i .given .1) (c .before .before .refuse .ensures)
+returns-2 c = rw (← c .before .before .before .before .before .before .before .before .first-bad .ensures, c .before .before .before .before .before .before .i .given .1, ← c .before .before .before .before .refused .ensures) (c .before .before .refuse .ensures)
 
 pub inverse-scanned-spec : {M : Type 1} → statement M
 inverse-scanned-spec =
@@ -38,9 +41,10 @@ inverse-scanned-spec =
     first-bad-requires
     enum-known-i
     enum-told
-    inverse-marked-requires
+    inverse-looked-requires
     same-length
     returns
+    refused-requires
     refuse-requires
     same-length-2
     returns-2)

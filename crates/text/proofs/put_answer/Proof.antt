@@ -23,13 +23,22 @@ put-number-requires-2 c κs = omega (arith, place (c .before .before .before .pu
 put-number-requires-3 : tie.Need-put-number-requires-3
 put-number-requires-3 c κs = omega (arith, place (c .before .before .before .before .before .before .before .put-number .ensures), place (c .before .before .before .put-number2 .ensures), number-most (c .before .before .before .before .before .before .before .before .before .before .args .answer) 32, number-most (c .before .before .before .before .before .before .before .before .before .before .args .place) 32)
 
+put-number-requires-4 : tie.Need-put-number-requires-4
+put-number-requires-4 c κs = omega (arith, place (c .before .before .before .before .before .before .before .before .before .before .before .put-number .ensures), place (c .before .before .before .before .before .before .before .put-number2 .ensures), place (c .before .before .before .put-number3 .ensures), number-most (c .before .before .before .before .before .before .before .before .before .before .before .before .before .before .args .answer) 32, number-most (c .before .before .before .before .before .before .before .before .before .before .before .before .before .before .args .place) 32, number-most (c .before .before .before .before .before .before .before .before .before .before .before .before .before .before .args .index) 32)
+
 same-length : tie.Need-same-length
 same-length c = omega arith
 
 returns : tie.Need-returns
-returns c = append-then (0, now (c .before .before .before .before .before .before .before .before .before .before .before .before .before .args .out)) (c .before .before .before .before .before .before .put-number2 .result, c .before .before .before .before .before .before .put-number2 .last .0) (c .before .before .put-number3 .result, c .before .before .put-number3 .last .0) (number (c .before .before .before .before .before .before .before .before .before .before .before .before .before .args .answer) 32 ++ number (c .before .before .before .before .before .before .before .before .before .before .before .before .before .args .place) 32) (number (c .before .before .before .before .before .before .before .before .before .before .before .before .before .args .count) 10) (append-then (0, now (c .before .before .before .before .before .before .before .before .before .before .before .before .before .args .out)) (c .before .before .before .before .before .before .before .before .before .before .put-number .result, c .before .before .before .before .before .before .before .before .before .before .put-number .last .0) (c .before .before .before .before .before .before .put-number2 .result, c .before .before .before .before .before .before .put-number2 .last .0) (number (c .before .before .before .before .before .before .before .before .before .before .before .before .before .args .answer) 32) (number (c .before .before .before .before .before .before .before .before .before .before .before .before .before .args .place) 32) (c .before .before .before .before .before .before .before .before .before .before .put-number .ensures) (c .before .before .before .before .before .before .put-number2 .ensures)) (c .before .before .put-number3 .ensures)
+returns c = append-then (0, now (c .before .before .before .before .before .before .before .before .before .before .before .before .before .before .before .before .before .args .out)) (c .before .before .before .before .before .before .put-number3 .result, c .before .before .before .before .before .before .put-number3 .last .0) (c .before .before .put-number4 .result, c .before .before .put-number4 .last .0) (number (c .before .before .before .before .before .before .before .before .before .before .before .before .before .before .before .before .before .args .answer) 32 ++ number (c .before .before .before .before .before .before .before .before .before .before .before .before .before .before .before .before .before .args .place) 32 ++ number (c .before .before .before .before .before .before .before .before .before .before .before .before .before .before .before .before .before .args .index) 32) (number (c .before .before .before .before .before .before .before .before .before .before .before .before .before .before .before .before .before .args .count) 10) (append-then (0, now (c .before .before .before .before .before .before .before .before .before .before .before .before .before .before .before .before .before .args .out)) (c .before .before .before .before .before .before .before .before .before .before .put-number2 .result, c .before .before .before .before .before .before .before .before .before .before .put-number2 .last .0) (c .before .before .before .before .before .before .put-number3 .result, c .before .before .before .before .before .before .put-number3 .last .0) (number (c .before .before .before .before .before .before .before .before .before .before .before .before .before .before .before .before .before .args .answer) 32 ++ number (c .before .before .before .before .before .before .before .before .before .before .before .before .before .before .before .before .before .args .place) 32) (number (c .before .before .before .before .before .before .before .before .before .before .before .before .before .before .before .before .before .args .index) 32) (append-then (0, now (c .before .before .before .before .before .before .before .before .before .before .before .before .before .before .before .before .before .args .out)) (c .before .before .before .before .before .before .before .before .before .before .before .before .before .before .put-number .result, c .before .before .before .before .before .before .before .before .before .before .before .before .before .before .put-number .last .0) (c .before .before .before .before .before .before .before .before .before .before .put-number2 .result, c .before .before .before .before .before .before .before .before .before .before .put-number2 .last .0) (number (c .before .before .before .before .before .before .before .before .before .before .before .before .before .before .before .before .before .args .answer) 32) (number (c .before .before .before .before .before .before .before .before .before .before .before .before .before .before .before .before .before .args .place) 32) (c .before .before .before .before .before .before .before .before .before .before .before .before .before .before .put-number .ensures) (c .before .before .before .before .before .before .before .before .before .before .put-number2 .ensures)) (c .before .before .before .before .before .before .put-number3 .ensures)) (c .before .before .put-number4 .ensures)
 
 pub put-answer-spec : {M : Type 1} → statement M
 put-answer-spec =
     tie.close
-    (tie.spec put-number-requires put-number-requires-2 put-number-requires-3 same-length returns)
+    (tie.spec
+    put-number-requires
+    put-number-requires-2
+    put-number-requires-3
+    put-number-requires-4
+    same-length
+    returns)

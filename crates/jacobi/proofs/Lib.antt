@@ -1,0 +1,2 @@
+-- What the marks look at.
+pub mod Marks
