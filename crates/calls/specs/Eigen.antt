@@ -10,13 +10,13 @@ use Rattle.leaves.specs.Leaf.{isFinite}
 use Rattle.answers.specs.Answers.{done, answered}
 use Rattle.answers.specs.Early.{Early}
 use Rattle.answers.specs.Index.{Class, AtMark}
-use Rattle.ql.specs.Told.{bad, used}
+use Rattle.told.specs.Told.{bad, used}
 use Rattle.eigen.specs.Eigen.{eigen}
-use Rattle.eigen.specs.Exact.{Outcome, Promised, Taken, Done, Halted, Broken0, Broken2, Columns, Points}
-use Rattle.eigen.specs.ExactLaws.{done-exactly, limit-exactly, mark0-exactly, mark1-exactly, mark2-exactly}
-use Rattle.eigen.specs.Result.{values-ascend, columns-with-values, finite-out}
-use Rattle.eigen.specs.Old.{eigen-old-contents}
-use Rattle.eigen.specs.Index.{index-points, index-zero}
+use Rattle.exact.specs.Exact.{Outcome, Promised, Taken, Done, Halted, Broken0, Broken2, Columns, Points}
+use Rattle.exact.specs.ExactLaws.{done-exactly, limit-exactly, mark0-exactly, mark1-exactly, mark2-exactly}
+use Rattle.exact.specs.Result.{values-ascend, columns-with-values, finite-out}
+use Rattle.exact.specs.Old.{eigen-old-contents}
+use Rattle.exact.specs.Index.{index-points, index-zero}
 
 -- each number exactly where 01 gives it
 module _ (n limit : ℕ) (a work result : Vec) (x : Outcome) (p : Promised n limit a work result x) (f : Taken n limit a work result) where

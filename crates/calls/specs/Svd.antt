@@ -13,7 +13,7 @@ use Rattle.answers.specs.Index.{AtMark}
 use Rattle.answers.specs.declared.Answer.{Answer}
 use Rattle.jacobi.specs.Told.{bad, used}
 use Rattle.svd.specs.Svd.{svd}
-use Rattle.svd.specs.Row.{rowSpan, partOf}
+use Rattle.row.specs.Row.{rowSpan, partOf}
 use Rattle.svd.specs.Document.{plainWork}
 use Rattle.svd.specs.Exact.{Outcome, Promised, Taken, Done, Halted, Broken2, orderOf, uCell, vtCell, uFactor, vFactor}
 use Rattle.svd.specs.ExactLaws.{svd-done-exactly, svd-limit-exactly, svd-mark1-exactly, svd-mark2-exactly}

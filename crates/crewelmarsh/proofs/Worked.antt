@@ -18,6 +18,7 @@ use Rattle.tred.specs.Tred as tr
 use Rattle.pass.specs.Pass as pa
 use Rattle.ql.specs.Ql as ql
 use Rattle.eigen.specs.Eigen as ei
+use Rattle.sweep.specs.Sweep as sw
 use Rattle.jacobi.specs.Jacobi as ja
 use Rattle.svd.specs.Order as so
 use Rattle.svd.specs.Svd as sv
@@ -61,7 +62,7 @@ ones n = replicate n one64
 
 -- a call gives these numbers: (four numbers, work, result)
 unfoldable given : Row → List ℕ
-unfolding ofBits toBits number bits of-bits numbers ones add sub mul div neg lt le eq ne lo.seek lo.first lo.times lo.upto lo.down lo.rounds lo.drops lo.fall ta.table ta.rows ro.whole ro.rootOf ro.root le.magnitude le.larger le.isFinite le.hypotOf le.hypot sc.classOf sc.scan sc.placeOf sc.lowerOf sc.firstBadLower sc.byRows an.limitGood an.lengths an.least an.present an.decompositionLength tr.scaleOf tr.skipRow tr.overScale tr.clear tr.against tr.generate tr.similarColumn tr.similarity tr.overH tr.lessen tr.updateColumn tr.updates tr.reflect tr.skip tr.reduce tr.householder tr.reduction tr.columnOver tr.dot tr.takeOff tr.turnColumns tr.clearColumn tr.apply tr.accumulate tr.accumulation tr.copyLast tr.moveLast tr.tred2 pa.pythag pa.signed pa.shift pa.lessened pa.rotated pa.spin pa.spins pa.landed pa.transformed pa.mark1 pa.settled pa.verdict pa.pass ql.movedUp ql.split ql.opened ql.iterated ql.closed ql.stage ql.turn ql.run ql.leastFrom ql.swapped ql.sortStep ql.sorted ql.mark2 ql.finished ql.tql2 ei.copyRow ei.columns ei.mirrorRow ei.rows ei.mark0 ei.afterTred ei.decomposed ei.given ei.entered ei.eigen ja.gram ja.skipped ja.rotationOf ja.turned ja.pairDone ja.pairsOf ja.sweep ja.factorsBad ja.verdict ja.swept ja.sweeps ja.normSq ja.divided ja.normalStep ja.normalised ja.allBad ja.finished ja.jacobi so.rank so.noted so.order sv.longest sv.workLength sv.source sv.columnLoaded sv.matrixLoaded sv.eyed sv.loaded sv.columnOut sv.factorOut sv.sortedOut sv.checks sv.ran sv.svd sl.columnSum sl.coefficient sl.solution sl.inverse sl.pinvSum sl.inverted sl.solveChecks sl.inverseChecks sl.looked sl.solve sl.pseudoInverse qr.dot qr.lessened qr.pass qr.passes qr.norm qr.over qr.normalised qr.putColumn qr.finished qr.column qr.columns qr.checks qr.qrQ
+unfolding ofBits toBits number bits of-bits numbers ones add sub mul div neg lt le eq ne lo.seek lo.first lo.times lo.upto lo.down lo.rounds lo.drops lo.fall ta.table ta.rows ro.whole ro.rootOf ro.root le.magnitude le.larger le.isFinite le.hypotOf le.hypot sc.classOf sc.scan sc.placeOf sc.lowerOf sc.firstBadLower sc.byRows an.limitGood an.lengths an.least an.present an.decompositionLength tr.scaleOf tr.skipRow tr.overScale tr.clear tr.against tr.generate tr.similarColumn tr.similarity tr.overH tr.lessen tr.updateColumn tr.updates tr.reflect tr.skip tr.reduce tr.householder tr.reduction tr.columnOver tr.dot tr.takeOff tr.turnColumns tr.clearColumn tr.apply tr.accumulate tr.accumulation tr.copyLast tr.moveLast tr.tred2 pa.pythag pa.signed pa.shift pa.lessened pa.rotated pa.spin pa.spins pa.landed pa.transformed pa.mark1 pa.settled pa.verdict pa.pass ql.movedUp ql.split ql.opened ql.iterated ql.closed ql.stage ql.turn ql.run ql.leastFrom ql.swapped ql.sortStep ql.sorted ql.mark2 ql.finished ql.tql2 ei.copyRow ei.columns ei.mirrorRow ei.rows ei.mark0 ei.afterTred ei.decomposed ei.given ei.entered ei.eigen sw.gram sw.skipped sw.rotationOf sw.turned sw.pairDone sw.pairsOf sw.sweep ja.factorsBad ja.verdict ja.swept ja.sweeps ja.normSq ja.divided ja.normalStep ja.normalised ja.allBad ja.finished ja.jacobi so.rank so.noted so.order sv.longest sv.workLength sv.source sv.columnLoaded sv.matrixLoaded sv.eyed sv.loaded sv.columnOut sv.factorOut sv.sortedOut sv.checks sv.ran sv.svd sl.columnSum sl.coefficient sl.solution sl.inverse sl.pinvSum sl.inverted sl.solveChecks sl.inverseChecks sl.looked sl.solve sl.pseudoInverse qr.dot qr.lessened qr.pass qr.passes qr.norm qr.over qr.normalised qr.putColumn qr.finished qr.column qr.columns qr.checks qr.qrQ
 given (root x r) = toBits binary64 (ro.root (number x)) ∷ []
 given (hypot x y r) = toBits binary64 (le.hypot (number x) (number y)) ∷ []
 given (eigen n matrix answer place index count result) =

@@ -4,11 +4,11 @@
 ghost use mathlib.Core.Path.{_≡_};
 ghost use Rattle.eigen.specs.Eigen.{eigen};
 ghost use Rattle.svd.specs.Svd.{svd};
-ghost use Rattle.svd.specs.Row.{rowSpan, extentOf};
+ghost use Rattle.row.specs.Row.{rowSpan, extentOf};
 ghost use Rattle.solve.specs.Solve.{solve, pseudoInverse};
 ghost use Rattle.qr.specs.Qr.{qrQ};
 use answers::Answer;
-use svd::Extent;
+use row::Extent;
 
 #[no_mangle]
 pub extern "C" fn crewelmarsh_symmetric_eigen_abi2(
@@ -50,7 +50,7 @@ pub extern "C" fn crewelmarsh_vt_row_extent_abi2(
 ) -> Extent
     ensures { λ r. ⌜ r ≡ extentOf (rowSpan «result_len» m n «has_u» «has_vt» j) ⌝ }
 {
-    svd::vt_row_extent(m, n, has_u, has_vt, result_len, j)
+    row::vt_row_extent(m, n, has_u, has_vt, result_len, j)
 }
 
 #[no_mangle]

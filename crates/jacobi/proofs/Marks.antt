@@ -13,8 +13,9 @@ use Rattle.leaves.specs.ScanLaws.{behind, Room, room-of}
 use Rattle.leaves.specs.FiniteLaws.{by-rows-long}
 use Rattle.leaves.specs.Both.{in-first, in-second}
 use Rattle.leaves.specs.declared.Bad.{Bad}
-use Rattle.jacobi.specs.Jacobi.{valueAt, factors, valuesFactors}
-use Rattle.jacobi.specs.Kept.{Sized}
+use Rattle.jacobi.specs.Jacobi.{factors, valuesFactors}
+use Rattle.sweep.specs.Sweep.{valueAt}
+use Rattle.sweep.specs.Kept.{Sized}
 
 module _ (rows cols : ℕ) (w : Vec) (s : Sized rows cols w) where
   abbrev u : Vec

@@ -3,7 +3,8 @@ use mathlib.Core.Bool.{Bool, true, not}
 use Prim.Native.Nat.{ℕ}
 use Rattle.grid.specs.Loop.{rounds}
 use Rattle.grid.specs.Real.{Vec}
-use Rattle.jacobi.specs.Jacobi.{sweep, normalised}
+use Rattle.jacobi.specs.Jacobi.{normalised}
+use Rattle.sweep.specs.Sweep.{sweep}
 
 -- document 000's sweeps: `for _sweep in 0..60 { let mut changed = false; ..; if !changed { break; } }`
 abbrev pub plainSweep : ℕ → ℕ → Bool × Vec → Bool × Vec

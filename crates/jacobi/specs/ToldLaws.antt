@@ -21,9 +21,11 @@ use Rattle.leaves.specs.declared.Bad.{Bad}
 use Rattle.leaves.specs.declared.Bad.the-variants.{At, Nowhere}
 use Rattle.answers.specs.Answers.{answered, done, passed, marked}
 use Rattle.answers.specs.declared.Answer.{Answer}
-use Rattle.jacobi.specs.Jacobi.{valueAt, sweep, factors, factorsBad, going, verdict, swept, ended, sweeps, normalised, valuesFactors, allBad, finished, jacobi}
+use Rattle.jacobi.specs.Jacobi.{factors, factorsBad, going, verdict, swept, ended, sweeps, normalised, valuesFactors, allBad, finished, jacobi}
+use Rattle.sweep.specs.Sweep.{valueAt, sweep}
 use Rattle.jacobi.specs.Document.{plainSweep, unchanged, plainSweeps, plain}
-use Rattle.jacobi.specs.Kept.{sweep-length, rounds-length, normalised-length}
+use Rattle.jacobi.specs.Kept.{rounds-length, normalised-length}
+use Rattle.sweep.specs.Kept.{sweep-length}
 use Rattle.jacobi.specs.Told.{Sound, Whole, Seen1, Seen2, End, here, bad, used, Swept, no-more, stop, once, again, Told, well, at-mark2, at-mark1, at-limit}
 
 -- ---- the marks

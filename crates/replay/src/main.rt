@@ -249,7 +249,7 @@ fn agrees(
 }
 
 fn row_agrees(c: Asked, wanted: Wanted, a: &[f64]) -> bool {
-    let row = svd::vt_row(
+    let row = row::vt_row(
         c.first as usize,
         c.second as usize,
         c.third as usize,

@@ -13,7 +13,7 @@ use Rattle.grid.specs.CellLaws.{cell}
 use Rattle.answers.specs.declared.Answer.{Answer}
 use Rattle.answers.specs.Answers.{refused, done, limitGood, lengths, least, present, decompositionLength}
 use Rattle.answers.specs.AnswersLaws.{least-le, present-le, product-le}
-use Rattle.jacobi.specs.Kept.{Sized}
+use Rattle.sweep.specs.Kept.{Sized}
 use Rattle.svd.specs.Rank.{Below}
 use Rattle.svd.specs.Svd.{longest, workLength, offset, checks}
 

@@ -18,10 +18,10 @@ use Rattle.answers.specs.AnswersLaws.{least-le}
 use Rattle.answers.specs.OutcomeLaws.{present-is, present-none}
 use Rattle.jacobi.specs.Told.{Whole}
 use Rattle.svd.specs.Rank.{order-below}
-use Rattle.svd.specs.declared.Span.{Span}
-use Rattle.svd.specs.declared.Span.the-variants.{At}
+use Rattle.row.specs.declared.Span.{Span}
+use Rattle.row.specs.declared.Span.the-variants.{At}
 use Rattle.svd.specs.Svd.{longest, offset, sortedOut, svd}
-use Rattle.svd.specs.Row.{vtAt, rowSpan, partOf}
+use Rattle.row.specs.Row.{vtAt, rowSpan, partOf}
 use Rattle.svd.specs.Known.{wide-longest, tall-longest, wide-least, tall-least}
 use Rattle.svd.specs.Document.{plainWork, valueOf, plainSvd}
 use Rattle.svd.specs.Exact.{Taken, orderOf, uCell, vtCell, uFactor, vFactor}

@@ -1,18 +1,15 @@
-// The svd of a matrix: the checks, the work array, the sweeps, the sorted result, and the row of V^T.
+// The svd of a matrix: the checks, the work array, the sweeps and the sorted result.
 ghost use mathlib.Core.Path.{_≡_};
 ghost use mathlib.Core.Bool.{cond};
 ghost use Prim.Native.Nat.{ℕ, _+_, _*_, _≤_, _<_};
 ghost use lib.Dec.{eqb};
 ghost use lib.ListN.{length};
-ghost use denote.Ref.{ptr};
 ghost use Rattle.grid.specs.Real.{at};
 ghost use Rattle.answers.specs.Answers.{least};
-ghost use Rattle.jacobi.specs.Kept.{Sized};
+ghost use Rattle.sweep.specs.Kept.{Sized};
 ghost use Rattle.svd.specs.Order.{ahead, one, rank, noted};
 ghost use Rattle.svd.specs.Svd.{longest, workLength, source, columnLoaded, matrixLoaded, eyed, columnOut, factorOut, offset, sortedOut, checks, ran, svd};
 ghost use Rattle.svd.specs.Known.{Checked, Out};
-ghost use Rattle.svd.specs.Row.{rowSpan, partOf, partAt, extentOf};
-ghost use Rattle.svd.specs.RowLaws.{Within};
 use answers::Answer;
 use answers::decomposition_length;
 use answers::least;
@@ -276,81 +273,4 @@ pub fn svd(
         return b;
     }
     run(m, n, want_u, want_vt, limit, matrix, work, result)
-}
-
-// Where a row of V^T stands in a decomposition.
-pub enum Span {
-    At(usize, usize),
-    Missing,
-}
-
-fn row_span(len: usize, m: usize, n: usize, has_u: usize, has_vt: usize, j: usize) -> Span
-    ensures { λ r. ⌜ r ≡ rowSpan len m n «has_u» «has_vt» j ⌝ }
-    ensures within { λ r. ⌜ Within len r ⌝ }
-{
-    if m > LARGEST {
-        return Span::Missing;
-    }
-    if n > LARGEST {
-        return Span::Missing;
-    }
-    if has_vt == 0 {
-        return Span::Missing;
-    }
-    let r = least(m, n);
-    if j >= r {
-        return Span::Missing;
-    }
-    if len != decomposition_length(m, n, has_u, has_vt) {
-        return Span::Missing;
-    }
-    let a = r + present(has_u, m * r) + j * n;
-    Span::At(a, a + n)
-}
-
-// Row j of V^T: that part of the decomposition.
-pub fn vt_row<'a>(
-    m: usize,
-    n: usize,
-    has_u: usize,
-    has_vt: usize,
-    j: usize,
-    decomposition: &'a [f64],
-) -> &'a [f64]
-    ensures { λ r. ⌜ now r ≡ partOf (now (decomposition .entry)) (rowSpan (length (now (decomposition .entry))) m n «has_u» «has_vt» j) ⌝ }
-    ensures { λ r. ⌜ ptr r ≡ partAt (ptr (decomposition .entry)) (rowSpan (length (now (decomposition .entry))) m n «has_u» «has_vt» j) ⌝ }
-{
-    let Span::At(a, e) = row_span(decomposition.len(), m, n, has_u, has_vt, j) else {
-        return &decomposition[0..0];
-    };
-    &decomposition[a..e]
-}
-
-// The same part by its numbers, for a caller in C: both are 0 for the empty part.
-#[repr(C)]
-pub struct Extent {
-    pub start: usize,
-    pub length: usize,
-}
-
-pub fn vt_row_extent(
-    m: usize,
-    n: usize,
-    has_u: usize,
-    has_vt: usize,
-    len: usize,
-    j: usize,
-) -> Extent
-    ensures { λ r. ⌜ r ≡ extentOf (rowSpan len m n «has_u» «has_vt» j) ⌝ }
-{
-    let Span::At(a, e) = row_span(len, m, n, has_u, has_vt, j) else {
-        return Extent {
-            start: 0,
-            length: 0,
-        };
-    };
-    Extent {
-        start: a,
-        length: e - a,
-    }
 }

@@ -7,7 +7,7 @@ use borrow.Author.Needs.{needs}
 use Rattle.grid.specs.Loop.{upto}
 use Rattle.grid.specs.LoopLaws.{start, next, done}
 use Rattle.jacobi.specs.Jacobi.{normalStep, normalised}
-use Rattle.jacobi.specs.Kept.{Sized}
+use Rattle.sweep.specs.Kept.{Sized}
 use Rattle.jacobi.proofs.normalise.Statement.{statement}
 use Rattle.jacobi.proofs.normalise.Tie as tie
 

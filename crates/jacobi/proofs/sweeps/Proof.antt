@@ -4,7 +4,7 @@ use mathlib.Core.Path.{_≡_, ap}
 use Prim.Native.Nat.{_+_, _≤_}
 use native.Mathlib.Omega.{arith}
 use borrow.Author.Needs.{needs}
-use Rattle.jacobi.specs.Kept.{Sized}
+use Rattle.sweep.specs.Kept.{Sized}
 use Rattle.jacobi.specs.Jacobi.{going, swept, sweeps, ended}
 use Rattle.grid.specs.Loop.{rounds}
 use Rattle.grid.specs.LoopLaws.{rounds-stop, rounds-more, rounds-done}

@@ -6,7 +6,7 @@ use native.Mathlib.Omega.{arith}
 use lib.ListN.{length}
 use Rattle.grid.specs.Loop.{upto}
 use Rattle.grid.specs.LoopLaws.{start, next, done}
-use Rattle.jacobi.specs.Kept.{Sized}
+use Rattle.sweep.specs.Kept.{Sized}
 use native.Mathlib.Nat.{mul-comm}
 use Rattle.grid.specs.TableLaws.{row-end}
 use Rattle.svd.specs.Svd.{columnLoaded, matrixLoaded}

@@ -8,7 +8,7 @@ use lib.ListN.{length}
 use denote.Ref.{now}
 use Rattle.grid.specs.Real.{Vec, zeros}
 use Rattle.answers.specs.Answers.{least}
-use Rattle.jacobi.specs.Kept.{Sized}
+use Rattle.sweep.specs.Kept.{Sized}
 use Rattle.svd.specs.Svd.{longest, loaded, ran}
 use Rattle.svd.specs.Known.{Checked, sized}
 use Rattle.svd.proofs.run.Statement.{statement}

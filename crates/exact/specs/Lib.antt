@@ -1,0 +1,10 @@
+-- `symmetric_eigen` beside document 000, and where each of its numbers is given.
+pub mod Copies
+pub mod Mirror
+pub mod Document
+pub mod DocumentLaws
+pub mod Exact
+pub mod ExactLaws
+pub mod Index
+pub mod Result
+pub mod Old

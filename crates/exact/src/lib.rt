@@ -1,0 +1,1 @@
+// What holds of every call of `symmetric_eigen`. There is no code here: specs/ and proofs/ have the theorems.

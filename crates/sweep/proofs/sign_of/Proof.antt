@@ -1,0 +1,13 @@
+-- Generated from the answers file beside it by tools/prove/prove.py: edit that.
+-- `sweep::sign_of` meets its contract.
+use Rattle.sweep.proofs.sign_of.Statement.{statement}
+use Rattle.sweep.proofs.sign_of.Tie as tie
+
+returns : tie.Need-returns
+returns c = rw (c .if1 .taken)
+
+returns-2 : tie.Need-returns-2
+returns-2 c = rw (c .if1 .left)
+
+pub sign-of-spec : {M : Type 1} → statement M
+sign-of-spec = tie.close (tie.spec returns returns-2)

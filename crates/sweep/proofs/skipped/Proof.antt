@@ -1,0 +1,23 @@
+-- Generated from the answers file beside it by tools/prove/prove.py: edit that.
+-- `sweep::skipped` meets its contract.
+use borrow.Author.Needs.{needs}
+use Rattle.sweep.specs.Sweep.{skipped}
+use Rattle.sweep.proofs.skipped.Statement.{statement}
+use Rattle.sweep.proofs.skipped.Tie as tie
+
+returns : tie.Need-returns
+unfolding skipped
+returns c = rw (c .if1 .taken)
+
+magnitude-requires : tie.Need-magnitude-requires
+magnitude-requires c κs = search needs
+
+root-requires : tie.Need-root-requires
+root-requires c κs = search needs
+
+returns-2 : tie.Need-returns-2
+unfolding skipped
+returns-2 c = rw (c .before .before .before .if1 .left, ← c .before .before .magnitude .ensures, ← c .root .ensures .0)
+
+pub skipped-spec : {M : Type 1} → statement M
+skipped-spec = tie.close (tie.spec returns magnitude-requires root-requires returns-2)

@@ -1,0 +1,3 @@
+-- One sweep of one-sided Jacobi.
+pub mod Sweep
+pub mod Kept
