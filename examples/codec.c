@@ -1,6 +1,7 @@
 /*
  * What a codec does with Crewelmarsh: samples of a few bands, their covariance, its values and vectors,
- * the forward transform, the inverse, and the largest difference to the samples. Then an svd and a
+ * the forward transform, the inverse, and the largest difference to the samples. Values and vectors then go into a
+ * transform block, from which a decoder takes them for a tile that has no block of its own. Then an svd and a
  * pseudo-inverse of a small matrix.
  */
 #include <stdio.h>
@@ -191,6 +192,38 @@ static int invert_small(void)
     return difference < 1e-9;
 }
 
+/* The values and vectors as a block, the numbers of which a decoder gets back bit for bit. The tile's own block has values
+   alone, so that they come from there and the vectors from the main header. */
+static int pass_as_block(void)
+{
+    static const double own_values[BANDS] = {1, 2, 3, 4, 5};
+    static unsigned char own[36 - 12 + 8 * BANDS], main_block[36 + 8 * (BANDS + BANDS * BANDS)];
+    double values_back[BANDS], vectors_back[BANDS * BANDS];
+    size_t own_len = crewelmarsh_block_length(BANDS, BANDS, 1, CREWELMARSH_VALUES, 0, 0);
+    size_t main_len = crewelmarsh_block_length(BANDS, BANDS, 2, CREWELMARSH_VALUES, CREWELMARSH_MATRIX, 0);
+    struct crewelmarsh_block about;
+    struct crewelmarsh_block_part at;
+
+    if (own_len != sizeof own || main_len != sizeof main_block)
+        return 0;
+    if (!done("block_write", crewelmarsh_block_write(BANDS, BANDS, 1, CREWELMARSH_VALUES, own_values, BANDS, 0, NULL, 0, 0, NULL, 0,
+                                                     own, own_len)) ||
+        !done("block_write", crewelmarsh_block_write(BANDS, BANDS, 2, CREWELMARSH_VALUES, values, BANDS, CREWELMARSH_MATRIX, vectors,
+                                                     BANDS * BANDS, 0, NULL, 0, main_block, main_len)))
+        return 0;
+    about = crewelmarsh_block_check(main_block, main_len);
+    printf("block: %zu bytes, %zu by %zu, %zu parts\n", main_len, about.rows, about.columns, about.parts);
+
+    at = crewelmarsh_block_find(own, own_len, main_block, main_len, CREWELMARSH_MATRIX);
+    printf("block: vectors from block %zu, offset %zu, %zu numbers\n", at.block, at.start, at.count);
+    if (!done("block_copy", crewelmarsh_block_copy(own, own_len, main_block, main_len, CREWELMARSH_VALUES, values_back, BANDS)) ||
+        !done("block_copy", crewelmarsh_block_copy(own, own_len, main_block, main_len, CREWELMARSH_MATRIX, vectors_back, BANDS * BANDS)))
+        return 0;
+    about = crewelmarsh_block_check(main_block, main_len - 1);
+    printf("block cut by a byte: answer %zu (%s)\n", about.answer, crewelmarsh_text(about.answer));
+    return largest_difference(own_values, values_back, BANDS) == 0 && largest_difference(vectors, vectors_back, BANDS * BANDS) == 0;
+}
+
 /* What a refusal looks like: 257 bands. */
 static void refuse(void)
 {
@@ -200,6 +233,7 @@ static void refuse(void)
 int main(void)
 {
     int good = transform_bands();
+    good = pass_as_block() && good;
     good = invert_small() && good;
     refuse();
     printf("%s\n", good ? "good" : "NOT good");

@@ -12,10 +12,19 @@
  * A sixth, crewelmarsh_vt_row_extent, says where in an svd's result a row of V^T stands; crewelmarsh_vt_row
  * makes a pointer of it.
  *
+ * Five more pass matrices as bytes, in transform blocks (see TRANSFORM BLOCKS below):
+ *
+ *     crewelmarsh_block_check       whether bytes are a block, and its rows and columns
+ *     crewelmarsh_block_find        which of two blocks has a part, and where
+ *     crewelmarsh_block_copy        a part's numbers as doubles
+ *     crewelmarsh_block_length      how long a block is
+ *     crewelmarsh_block_write       a block from doubles
+ *
  * WHAT IS ASKED OF A CALLER
  *
- * An array is lent as a pointer and a length in numbers (not bytes). The arrays of one call exist at
- * the length given, are aligned for double and don't overlap. No code can test that. Nothing else is
+ * An array is lent as a pointer and a length in numbers (not bytes), a block as a pointer and a length in
+ * bytes. The arrays of one call exist at the length given, are aligned for double where they hold doubles, and
+ * don't overlap. No code can test that. Nothing else is
  * asked: every other mistake comes back as a number, and no array is read or written outside its
  * length. An array of length 0 may be NULL, or any other pointer: it isn't looked at.
  *
@@ -30,7 +39,7 @@
  *
  * `answer` says what happened, `place` where, `index` which number, `count` how much work was done. Test
  * `answer` after every call: only 0 leaves a result. The same call gives the same bits, whatever work, result and
- * answer held before (T2 and T14 of docs/PROMISES.md). No entry writes an infinity or a NaN (T11).
+ * answer held before (T2 and T14 of docs/PROMISES.md). None of the five writes an infinity or a NaN (T11).
  *
  *     answer   arrays afterwards
  *     0        result or answer full, work all +0.0
@@ -38,6 +47,8 @@
  *     7 to 10  result or answer, and work, all +0.0
  *
  * Matrix, decomposition and right side are only read.
+ *
+ * 20 to 24 come from blocks alone, and leave all untouched.
  *
  * The tests run in the order of the numbers, so a 6 says that sizes, limit and flags were good, and a 7
  * that the lengths were good too. 8, 9 and 10 come as the run meets them.
@@ -85,7 +96,7 @@
  * patch.
  */
 #define CREWELMARSH_VERSION_MAJOR 2
-#define CREWELMARSH_VERSION_MINOR 0
+#define CREWELMARSH_VERSION_MINOR 1
 #define CREWELMARSH_VERSION_PATCH 0
 #define CREWELMARSH_VERSION /* as a string */ \
     CREWELMARSH_DOTTED(CREWELMARSH_VERSION_MAJOR, CREWELMARSH_VERSION_MINOR, CREWELMARSH_VERSION_PATCH)
@@ -97,6 +108,11 @@
 #define crewelmarsh_solve CREWELMARSH_NAME(solve)
 #define crewelmarsh_pseudo_inverse CREWELMARSH_NAME(pseudo_inverse)
 #define crewelmarsh_qr_q CREWELMARSH_NAME(qr_q)
+#define crewelmarsh_block_check CREWELMARSH_NAME(block_check)
+#define crewelmarsh_block_find CREWELMARSH_NAME(block_find)
+#define crewelmarsh_block_copy CREWELMARSH_NAME(block_copy)
+#define crewelmarsh_block_length CREWELMARSH_NAME(block_length)
+#define crewelmarsh_block_write CREWELMARSH_NAME(block_write)
 
 /* The numbers are put in first, then pasted or quoted. */
 #define CREWELMARSH_NAME(name) CREWELMARSH_NUMBERED(crewelmarsh_##name##_abi, CREWELMARSH_VERSION_MAJOR)
@@ -182,7 +198,30 @@ enum {
        largest number is near 1 already, tiny ones stand beside it (in symmetric_eigen 2^-1074 beside 1): set to 0
        what is that far below the largest. In solve and pseudo_inverse raise the tolerance as for 8, and don't
        pass a negative one, which has values of 0 divided by. */
-    CREWELMARSH_INVALID = 10
+    CREWELMARSH_INVALID = 10,
+
+    /* A block is cut short: fewer than 12 bytes, or than its entries need, or than its numbers need. Place 0, as
+       for 21 to 24.
+       The block was not read or sent whole. Fetch it again. */
+    CREWELMARSH_BLOCK_SHORT = 20,
+
+    /* Bytes stand behind the block's last number.
+       Pass the block's own length and not the buffer's. */
+    CREWELMARSH_BLOCK_OVER = 21,
+
+    /* Rows or columns are over 256, there are more than 3 parts, or a part's count is not min(rows, columns) for
+       values, rows * columns for a matrix or an inverse.
+       Reading: these bytes are no block, or one of another program's making; look for little-endian numbers.
+       Writing: take the counts from rows and columns. */
+    CREWELMARSH_BLOCK_COUNT = 22,
+
+    /* A part's kind is none of 1, 2, 3, or not above that of the part before it.
+       Writing: values first, then the matrix, then the inverse, each once at most. */
+    CREWELMARSH_BLOCK_KIND = 23,
+
+    /* A part's offset is not where the entries end, or where the part before it ends.
+       The block was not made by this format's rules; nothing of it can be trusted. */
+    CREWELMARSH_BLOCK_OFFSET = 24
 };
 
 /* A short text for an answer number, for logs. Never NULL. */
@@ -200,6 +239,11 @@ static inline const char *crewelmarsh_text(size_t answer)
     case CREWELMARSH_OVERFLOW: return "a number computed is infinite";
     case CREWELMARSH_LIMIT_USED: return "the limit is used up";
     case CREWELMARSH_INVALID: return "a number computed is not a number";
+    case CREWELMARSH_BLOCK_SHORT: return "the block is cut short";
+    case CREWELMARSH_BLOCK_OVER: return "bytes stand behind the block";
+    case CREWELMARSH_BLOCK_COUNT: return "a dimension, a number of parts or a count of the block is bad";
+    case CREWELMARSH_BLOCK_KIND: return "a kind of the block is bad or out of order";
+    case CREWELMARSH_BLOCK_OFFSET: return "an offset of the block is bad";
     default: return "no answer of crewelmarsh";
     }
 }
@@ -485,6 +529,133 @@ struct crewelmarsh_answer crewelmarsh_qr_q(
     size_t k,
     const double *matrix, size_t matrix_len,
     double *answer, size_t answer_len);
+
+/*
+ * TRANSFORM BLOCKS
+ *
+ * A block holds rows, columns and up to three parts: values, a matrix, its inverse. All numbers are big-endian. First
+ * three u32: rows, columns, how many parts; then for each part three u32: its kind, the offset of its numbers from
+ * the block's start, how many there are; then the numbers, 8 bytes each, with no gap. Kinds ascend, so there is
+ * exactly one block for a content: two blocks hold the same exactly where their bytes are equal. A dimension may be 0.
+ *
+ * A full block of 256 by 256 has 1,050,672 bytes. Checking one reads its first 48 bytes at most.
+ *
+ * Blocks are arrays of unsigned char and need no alignment. Every length is tested before anything behind it is read, so
+ * that any bytes at all, cut or changed, may be passed.
+ *
+ * A NaN: each of its patterns is content like any other as long as a block is only passed on. As a double it is just a
+ * NaN: block_write writes every NaN as 7ff8000000000000, and block_copy gives a NaN for every pattern of one, with no
+ * word about its bits. Every other double, infinities and -0.0 too, is written and read bit for bit.
+ */
+
+/* The kinds of parts. */
+enum {
+    CREWELMARSH_VALUES = 1,  /* min(rows, columns) numbers */
+    CREWELMARSH_MATRIX = 2,  /* rows * columns numbers, row by row */
+    CREWELMARSH_INVERSE = 3  /* rows * columns numbers, row by row */
+};
+
+/* The longest block. */
+enum { CREWELMARSH_BLOCK_MOST = 12 + 3 * 12 + 8 * (256 + 2 * 256 * 256) };
+
+/* What block_check says. On every answer but 0 rows, columns and parts are 0. */
+struct crewelmarsh_block {
+    size_t answer;  /* 0, or 20 to 24 */
+    size_t rows;
+    size_t columns;
+    size_t parts;   /* how many, 0 to 3 */
+};
+
+/*
+ * Whether these bytes are a block, and its rows and columns.
+ *
+ * The answer is 0, or the first of these that is met: 20 (the first 12 bytes), 22 (rows, columns, how many parts), 20
+ * (the entries), for each part 23, 22, 24, then 20 (the numbers), 21. The numbers aren't looked at.
+ */
+struct crewelmarsh_block crewelmarsh_block_check(const unsigned char *block, size_t block_len);
+
+/* Where a part stands. All three are 0 where neither block has one. */
+struct crewelmarsh_block_part {
+    size_t block;  /* 1 the tile's own, 2 the main one */
+    size_t start;  /* the offset in that block */
+    size_t count;  /* how many numbers; their bytes are 8 times as many */
+};
+
+/*
+ * The part of a kind from the tile's own block where it has one, else from the main block. A block that block_check refuses
+ * has none, so that for a tile without a block own is NULL with own_len 0. A kind other than 1, 2 and 3 is in no block.
+ */
+struct crewelmarsh_block_part crewelmarsh_block_find(
+    const unsigned char *own, size_t own_len,
+    const unsigned char *main_block, size_t main_len,
+    size_t kind);
+
+/* A part of a block. */
+struct crewelmarsh_bytes {
+    const unsigned char *start;
+    size_t length;
+};
+
+/* The same part as bytes, with no copy: its length is 8 times its count. Where neither block has one it is the main block's empty
+   start. */
+static inline struct crewelmarsh_bytes crewelmarsh_block_bytes(
+    const unsigned char *own, size_t own_len,
+    const unsigned char *main_block, size_t main_len,
+    size_t kind)
+{
+    struct crewelmarsh_block_part at = crewelmarsh_block_find(own, own_len, main_block, main_len, kind);
+    struct crewelmarsh_bytes part;
+    part.start = at.block == 0 ? main_block : at.block == 1 ? own + at.start : main_block + at.start;
+    part.length = 8 * at.count;
+    return part;
+}
+
+/*
+ * The numbers of that part as doubles.
+ *
+ * out        as many as the part has, which block_find says: 0 where neither block has one
+ *
+ * Answers, index and count always 0:
+ *   0
+ *   6  place 0: out_len is not the part's count. out is untouched
+ *
+ * A refused block has no part and gives no refusal of its own here: block_check says what is wrong with it.
+ */
+struct crewelmarsh_answer crewelmarsh_block_copy(
+    const unsigned char *own, size_t own_len,
+    const unsigned char *main_block, size_t main_len,
+    size_t kind,
+    double *out, size_t out_len);
+
+/*
+ * How many bytes the block of rows, columns and the first `parts` of these kinds has; 0 where block_write refuses it
+ * with 22 or 23. Kinds behind the first `parts` aren't looked at.
+ */
+size_t crewelmarsh_block_length(size_t rows, size_t columns, size_t parts, size_t kind1, size_t kind2, size_t kind3);
+
+/*
+ * Writes the block of rows, columns and the first `parts` of three parts, each by its kind and its numbers. What is behind
+ * the first `parts` isn't looked at, and may be 0, NULL, 0.
+ *
+ * rows, columns   0 to 256
+ * parts           0 to 3
+ * kind1 ..        ascending
+ * numbers1 ..     as many as the kind has, only read
+ * out             as many bytes as block_length says. On 0: the block
+ *
+ * Answers, index and count always 0; all but 0 leave out untouched:
+ *   0
+ *   22, 23  place 0, in block_check's order: 22 (rows, columns, parts), for each part 23, 22
+ *   6  place 0: out_len is not the block's length
+ */
+struct crewelmarsh_answer crewelmarsh_block_write(
+    size_t rows,
+    size_t columns,
+    size_t parts,
+    size_t kind1, const double *numbers1, size_t len1,
+    size_t kind2, const double *numbers2, size_t len2,
+    size_t kind3, const double *numbers3, size_t len3,
+    unsigned char *out, size_t out_len);
 
 #ifdef __cplusplus
 }

@@ -17,38 +17,53 @@ struct Answer {
 /// The archive's entries. Where the machine is not x86-64, `native.sh` compiles the archive's module for it, and there the struct comes back
 /// through a first pointer.
 macro_rules! entries {
-    ($(fn $name:ident($($p:ident: $t:ty),*);)*) => {
-        $(unsafe fn $name($($p: $t),*) -> Answer {
+    ($(fn $name:ident($($p:ident: $t:ty),*) -> $answer:ty;)*) => {
+        $(unsafe fn $name($($p: $t),*) -> $answer {
             #[cfg(target_arch = "x86_64")]
             {
                 unsafe extern "C" {
-                    fn $name($($p: $t),*) -> Answer;
+                    fn $name($($p: $t),*) -> $answer;
                 }
                 unsafe { $name($($p),*) }
             }
             #[cfg(not(target_arch = "x86_64"))]
             {
                 unsafe extern "C" {
-                    fn $name(out: *mut Answer, $($p: $t),*) -> *mut Answer;
+                    fn $name(out: *mut $answer, $($p: $t),*) -> *mut $answer;
                 }
-                let mut out = Answer { answer: 0, place: 0, index: 0, count: 0 };
-                unsafe { $name(&mut out, $($p),*) };
-                out
+                let mut out = std::mem::MaybeUninit::<$answer>::uninit();
+                unsafe {
+                    $name(out.as_mut_ptr(), $($p),*);
+                    out.assume_init()
+                }
             }
         })*
     };
 }
 
+#[repr(C)]
+struct Shape {
+    answer: usize,
+    rows: usize,
+    columns: usize,
+    parts: usize,
+}
+
 entries! {
     fn crewelmarsh_symmetric_eigen_abi2(n: usize, limit: usize, matrix: *const f64, matrix_len: usize, work: *mut f64, work_len: usize,
-        result: *mut f64, result_len: usize);
+        result: *mut f64, result_len: usize) -> Answer;
     fn crewelmarsh_svd_abi2(m: usize, n: usize, want_u: usize, want_vt: usize, limit: usize, matrix: *const f64, matrix_len: usize,
-        work: *mut f64, work_len: usize, result: *mut f64, result_len: usize);
+        work: *mut f64, work_len: usize, result: *mut f64, result_len: usize) -> Answer;
     fn crewelmarsh_solve_abi2(m: usize, n: usize, has_u: usize, has_vt: usize, tolerance: f64, decomposition: *const f64,
-        decomposition_len: usize, right_side: *const f64, right_side_len: usize, answer: *mut f64, answer_len: usize);
+        decomposition_len: usize, right_side: *const f64, right_side_len: usize, answer: *mut f64, answer_len: usize) -> Answer;
     fn crewelmarsh_pseudo_inverse_abi2(m: usize, n: usize, has_u: usize, has_vt: usize, tolerance: f64, decomposition: *const f64,
-        decomposition_len: usize, answer: *mut f64, answer_len: usize);
-    fn crewelmarsh_qr_q_abi2(m: usize, k: usize, matrix: *const f64, matrix_len: usize, answer: *mut f64, answer_len: usize);
+        decomposition_len: usize, answer: *mut f64, answer_len: usize) -> Answer;
+    fn crewelmarsh_qr_q_abi2(m: usize, k: usize, matrix: *const f64, matrix_len: usize, answer: *mut f64, answer_len: usize) -> Answer;
+    fn crewelmarsh_block_check_abi2(block: *const u8, block_len: usize) -> Shape;
+    fn crewelmarsh_block_copy_abi2(own: *const u8, own_len: usize, main_block: *const u8, main_len: usize, kind: usize, out: *mut f64,
+        out_len: usize) -> Answer;
+    fn crewelmarsh_block_write_abi2(rows: usize, columns: usize, parts: usize, kind1: usize, numbers1: *const f64, len1: usize,
+        kind2: usize, numbers2: *const f64, len2: usize, kind3: usize, numbers3: *const f64, len3: usize, out: *mut u8, out_len: usize) -> Answer;
 }
 
 unsafe extern "C" {
@@ -151,6 +166,52 @@ fn row(what: &str, kind: &str, n: usize, times: &[f64], lapack: bool) {
     println!("| `{what}` | {kind} | {n} | {:.1} | {:.1} | {:.2} | {one} | {two} |", times[0], times[1], times[0] / times[1]);
 }
 
+// ---------------------------------------------------------------- blocks
+
+/// A full block, 256 by 256 with three parts (1,050,672 bytes): the check of its header, the check and all three parts copied out, and the
+/// block written, beside a plain copy of as many bytes.
+fn blocks(rng: &mut Random) {
+    let counts = [256, 65536, 65536];
+    let given: Vec<Vec<f64>> = counts.iter().map(|&n| (0..n).map(|_| rng.unit()).collect()).collect();
+    let mut out: Vec<Vec<f64>> = counts.iter().map(|&n| vec![0.0; n]).collect();
+    let mut block = vec![0u8; 48 + 8 * counts.iter().sum::<usize>()];
+    let mut plain = vec![0u8; block.len()];
+    let write = |given: &[Vec<f64>], to: &mut [u8]| unsafe {
+        crewelmarsh_block_write_abi2(
+            256, 256, 3, 1, given[0].as_ptr(), counts[0], 2, given[1].as_ptr(), counts[1], 3, given[2].as_ptr(), counts[2],
+            to.as_mut_ptr(), to.len(),
+        )
+    };
+    let check = |block: &[u8]| unsafe { crewelmarsh_block_check_abi2(block.as_ptr(), block.len()) };
+    let copy = |block: &[u8], out: &mut [Vec<f64>]| {
+        let shape = check(block);
+        assert!(shape.answer == 0 && (shape.rows, shape.columns, shape.parts) == (256, 256, 3));
+        for (to, kind) in out.iter_mut().zip(1..) {
+            let done = unsafe {
+                crewelmarsh_block_copy_abi2(std::ptr::null(), 0, block.as_ptr(), block.len(), kind, to.as_mut_ptr(), to.len())
+            };
+            assert_eq!(done.answer, 0);
+        }
+    };
+    assert_eq!(write(&given, &mut block).answer, 0);
+    copy(&block, &mut out);
+    assert!(given == out);
+    let full = block.clone();
+    let times = medians(&mut [
+        &mut || black_box(&mut plain[..]).copy_from_slice(black_box(&full)),
+        &mut || drop(black_box(check(black_box(&full)))),
+        &mut || copy(black_box(&full), black_box(&mut out)),
+        &mut || drop(black_box(write(black_box(&given), black_box(&mut block)))),
+    ]);
+    println!("\nA full block of 256 by 256, {} bytes, in microseconds; the share is that of a plain copy's speed.\n", full.len());
+    println!("| what | time | share |");
+    println!("|---|---|---|");
+    println!("| a plain copy (`memcpy`) | {:.1} | 1 |", times[0]);
+    println!("| the header checked | {:.3} | |", times[1]);
+    println!("| checked, and all three parts copied out as doubles | {:.1} | {:.2} |", times[2], times[0] / times[2]);
+    println!("| written from doubles | {:.1} | {:.2} |", times[3], times[0] / times[3]);
+}
+
 // ---------------------------------------------------------------- LAPACK
 
 type Dsyev = unsafe extern "C" fn(
@@ -247,6 +308,9 @@ impl Lapack {
 fn main() {
     let lapack = lapack();
     let mut rng = Random::new(1);
+    if std::env::args().nth(1).as_deref() == Some("blocks") {
+        return blocks(&mut rng);
+    }
     let about = std::fs::read_to_string("/proc/cpuinfo").unwrap_or_default();
     let model = about.lines().find(|l| l.starts_with("model name")).and_then(|l| l.split(": ").nth(1)).unwrap_or("unknown");
     println!("Machine: {} ({model}).", std::env::consts::ARCH);
@@ -310,4 +374,5 @@ fn main() {
         ]);
         row("qr_q", KINDS[0], n, &times, false);
     }
+    blocks(&mut rng);
 }

@@ -1,8 +1,8 @@
 #!/bin/sh
 # Wrong versions of the patched functions, each behind the C entries in the archive's place. The committed list and the C tests
 # (tests/*.c) must each find every one: a version that agrees with all cases of the list, or that passes all of the tests, fails this
-# script. The patched functions as they are come first, and must pass both.
-# Each line of the table is a sed command on src/patched.rs (for hypot on src/hypot.rs); it must change the text.
+# script. The patched functions as they are come first, and must pass both. Those of blocks are for the C tests alone: the list has none.
+# Each line of the table is a sed command on src/patched.rs (for hypot on src/hypot.rs, for blocks on src/block.rs); it must change the text.
 # Needs rustc, a C and a C++ compiler: RUSTC, CC, CXX.
 set -e
 cd "$(dirname "$0")"
@@ -32,14 +32,14 @@ tested() { timeout 60 $out/boundary >$out/tests 2>&1 && [ "$(tail -n 1 $out/test
 told() { tail -n 1 "$2" | grep "$1" | sed 's/.*, //' | grep . || echo 'no count'; }
 
 left=0
-cp src/entries.rs src/hypot.rs src/patched.rs $out/
+cp src/entries.rs src/block.rs src/hypot.rs src/patched.rs $out/
 build
 listed || { echo "the patched functions as they are: the list differs; $(tail -n 1 $out/said)"; left=1; }
 tested || { echo "the patched functions as they are: the C tests fail; $(tail -n 1 $out/tests)"; left=1; }
 while IFS='	' read -r name edit; do
-    cp src/entries.rs src/hypot.rs src/patched.rs $out/
+    cp src/entries.rs src/block.rs src/hypot.rs src/patched.rs $out/
     text=patched.rs
-    case $name in hypot*) text=hypot.rs ;; esac
+    case $name in hypot*) text=hypot.rs ;; block*) text=block.rs ;; esac
     sed "$edit" src/$text >$out/$text
     if cmp -s src/$text $out/$text; then
         echo "$name: the edit changes nothing"
@@ -47,7 +47,8 @@ while IFS='	' read -r name edit; do
         continue
     fi
     build
-    if listed; then by_list='NOT FOUND'; left=1; else by_list=$(told ', .* differ' $out/said); fi
+    if [ $text = block.rs ]; then by_list='has no blocks'
+    elif listed; then by_list='NOT FOUND'; left=1; else by_list=$(told ', .* differ' $out/said); fi
     if tested; then by_tests='NOT FOUND'; left=1; else by_tests=$(told 'checks, .* failed' $out/tests); fi
     echo "$name: list: $by_list; C tests: $by_tests"
 done <<'TABLE'
@@ -101,5 +102,18 @@ right side's place from 0	s/decomposition.len() + place/place/
 count of sweeps one less	s/told(9, count, count)/told(9, count, count - 1)/
 hypot of the larger first	s/if x.abs() < y.abs()/if x.abs() > y.abs()/
 hypot by root(x*x + y*y)	s/    let q = b \/ a;/    return (a * a + b * b).sqrt(); #[allow(unreachable_code)] let q = b \/ a;/
+block little-endian	s/u32::from_be_bytes/u32::from_le_bytes/
+block kind twice	s/\*before >= kind/*before > kind/
+block kind 4 taken	s/2 | 3 => Some/2..=4 => Some/
+block offset behind three entries	s/let mut end = block.len() - rest.len();/let mut end = 48;/
+block offset not looked at	s/if offset != end {/if offset < end {/
+block count before kind	s/let Some(wanted) = count_of(rows, columns, kind) else { return Err(23) };/let Some(wanted) = count_of(rows, columns, kind) else { return Err(22) };/
+block 21 before 20	s/n if n < end => Err(20)/n if n < end => Err(21)/
+block bytes over taken	s/n if n > end => Err(21),//
+block of 257	s/rows > 256 ||/rows > 257 ||/
+block main before own	s/\[own, main\]/[main, own]/
+block values of a matrix's count	s/1 => Some(rows.min(columns))/1 => Some(rows * columns)/
+block written where it is short	s/if block.len() != out.len() {/if block.len() > out.len() {/
+block length where refused	s/Some(_) => 0,/Some(_) => 12,/
 TABLE
 exit $left

@@ -13,7 +13,7 @@ ORACLE_SOURCES := $(wildcard oracle/src/*.rs)
 ORACLE_RUSTC := $(RUSTC) --edition 2024 -C opt-level=3
 ORACLE_ENTRIES := $(ENTRIES:crewelmarsh_%=%)
 
-.PHONY: verbatim oracle oracle-check oracle-mutants oracle-standin findings cases compare bench bench-root has-rustc
+.PHONY: verbatim oracle oracle-check oracle-mutants oracle-standin findings cases compare bench bench-blocks bench-root has-rustc
 
 has-rustc:
 	@command -v $(RUSTC) >/dev/null || { echo "the oracle is Rust, and there is no $(RUSTC) here"; exit 1; }
@@ -36,13 +36,15 @@ verbatim:
 	@oracle/verbatim.sh
 
 # The oracle against itself: the text is document 000's; where the patched functions answer 0, document 000 gives the
-# same bits; the committed list is what the oracle writes.
+# same bits; the committed lists are what the oracle writes.
 oracle-check: $(ORACLE)/oracle
 	oracle/verbatim.sh
 	$(ORACLE)/oracle check $(SEED) $(CASES)
 	$(ORACLE)/oracle check $(SEED) 2000 40
 	$(ORACLE)/oracle list | cmp - crates/replay/stdin
 	$(ORACLE)/oracle agreed | cmp - crates/replay/stdout
+	$(ORACLE)/oracle blocks | cmp - crates/blocks/stdin
+	$(ORACLE)/oracle blocks-wanted | cmp - crates/blocks/stdout
 
 # The committed list and the C tests each find every wrong version of a table of them.
 oracle-mutants: has-rustc
@@ -52,14 +54,16 @@ oracle-mutants: has-rustc
 findings: $(ORACLE)/oracle
 	$(ORACLE)/oracle findings
 
-# The committed list, and what its replay writes, anew.
+# The committed lists, and what their replays write, anew.
 cases: $(ORACLE)/oracle
 	mkdir -p crates/replay
 	$(ORACLE)/oracle list >crates/replay/stdin
 	$(ORACLE)/oracle agreed >crates/replay/stdout
+	$(ORACLE)/oracle blocks >crates/blocks/stdin
+	$(ORACLE)/oracle blocks-wanted >crates/blocks/stdout
 
 # The patched functions behind the C entries, for trying a test or a driver: one object, no other name visible.
-$(ORACLE)/libcrewelmarsh_oracle.a: oracle/src/entries.rs oracle/src/patched.rs oracle/src/hypot.rs | has-rustc
+$(ORACLE)/libcrewelmarsh_oracle.a: oracle/src/entries.rs oracle/src/block.rs oracle/src/patched.rs oracle/src/hypot.rs | has-rustc
 	mkdir -p $(ORACLE)
 	$(ORACLE_RUSTC) -C panic=abort --crate-type staticlib --crate-name crewelmarsh_oracle $< -o $(ORACLE)/all.a
 	ld -r --gc-sections $(ORACLE_ENTRIES:%=-u crewelmarsh_%) -o $(ORACLE)/one.o $(ORACLE)/all.a
@@ -105,6 +109,10 @@ $(ORACLE)/bench: oracle/bench.rs $(ORACLE)/liboracle.rlib $(MEASURED)
 
 bench: $(ORACLE)/bench
 	$(ORACLE)/bench
+
+# The blocks' rows alone, in a second.
+bench-blocks: $(ORACLE)/bench
+	$(ORACLE)/bench blocks
 
 # A copy of the root in C and the school method, held to the processor's root and measured; no archive and no rustc.
 $(ORACLE)/root: oracle/root.c

@@ -25,5 +25,7 @@ int main(void)
     test_sizes();
     group("numbers");
     test_numbers();
+    group("blocks");
+    test_blocks();
     return report();
 }

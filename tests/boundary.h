@@ -89,5 +89,6 @@ void test_qr_q(void);
 void test_marks(void);
 void test_sizes(void);
 void test_numbers(void);
+void test_blocks(void);
 
 #endif

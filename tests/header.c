@@ -41,7 +41,7 @@ SAME(qr_answer, CREWELMARSH_QR_Q_ANSWER_LEN(3, 2), 6);
 #error "the version is no number"
 #endif
 
-/* "2.0.0", of one digit each until one has more. */
+/* "2.1.0", of one digit each until one has more. */
 static int version_right(void)
 {
     const char *v = CREWELMARSH_VERSION;
@@ -57,19 +57,23 @@ static int constants_right(void)
     return CREWELMARSH_DONE == 0 && CREWELMARSH_DIMENSION == 1 && CREWELMARSH_LIMIT == 2 &&
            CREWELMARSH_NO_U == 3 && CREWELMARSH_NO_VT == 4 && CREWELMARSH_RIGHT_SIDE == 5 &&
            CREWELMARSH_LENGTH == 6 && CREWELMARSH_NOT_FINITE == 7 && CREWELMARSH_OVERFLOW == 8 &&
-           CREWELMARSH_LIMIT_USED == 9 && CREWELMARSH_INVALID == 10 && CREWELMARSH_MAX_DIMENSION == 256 &&
+           CREWELMARSH_LIMIT_USED == 9 && CREWELMARSH_INVALID == 10 && CREWELMARSH_BLOCK_SHORT == 20 &&
+           CREWELMARSH_BLOCK_OVER == 21 && CREWELMARSH_BLOCK_COUNT == 22 && CREWELMARSH_BLOCK_KIND == 23 &&
+           CREWELMARSH_BLOCK_OFFSET == 24 && CREWELMARSH_VALUES == 1 && CREWELMARSH_MATRIX == 2 &&
+           CREWELMARSH_INVERSE == 3 && CREWELMARSH_BLOCK_MOST == 1050672 && CREWELMARSH_MAX_DIMENSION == 256 &&
            CREWELMARSH_MIN_LIMIT == 1 && CREWELMARSH_MAX_LIMIT == 60;
 }
 
-/* The eleven texts and the one for other numbers differ from each other. */
+/* The text of each number differs from the others, and from the one that all other numbers have. */
 static int texts_differ(void)
 {
+    static const size_t numbers[] = {0, 1, 2, 3, 4, 5, 6, 7, 8, 9, 10, 20, 21, 22, 23, 24, (size_t)-1};
     size_t a, b;
-    for (a = 0; a <= 11; a++)
+    for (a = 0; a < sizeof numbers / sizeof numbers[0]; a++)
         for (b = 0; b < a; b++)
-            if (strcmp(crewelmarsh_text(a), crewelmarsh_text(b)) == 0)
+            if (strcmp(crewelmarsh_text(numbers[a]), crewelmarsh_text(numbers[b])) == 0)
                 return 0;
-    return strcmp(crewelmarsh_text(11), crewelmarsh_text((size_t)-1)) == 0;
+    return strcmp(crewelmarsh_text(11), crewelmarsh_text((size_t)-1)) == 0 && strcmp(crewelmarsh_text(19), crewelmarsh_text(25)) == 0;
 }
 
 static int square_lengths_right(size_t n)
@@ -147,7 +151,15 @@ static int in_order(void)
 static int entries_link(void)
 {
     struct crewelmarsh_extent none = crewelmarsh_vt_row_extent(0, 0, 1, 1, 0, 0);
-    return none.start == 0 && none.length == 0 &&
+    struct crewelmarsh_block block = crewelmarsh_block_check(NULL, 0);
+    struct crewelmarsh_block_part part = crewelmarsh_block_find(NULL, 0, NULL, 0, 1);
+    unsigned char least[12];
+    return block.answer == 20 && block.rows == 0 && block.columns == 0 && block.parts == 0 && part.block == 0 && part.start == 0 &&
+           part.count == 0 && crewelmarsh_block_bytes(NULL, 0, NULL, 0, 1).start == NULL &&
+           is_answer(crewelmarsh_block_copy(NULL, 0, NULL, 0, 1, NULL, 0), 0, 0, 0) &&
+           crewelmarsh_block_length(0, 0, 0, 0, 0, 0) == 12 &&
+           is_answer(crewelmarsh_block_write(0, 0, 0, 0, NULL, 0, 0, NULL, 0, 0, NULL, 0, least, 12), 0, 0, 0) &&
+           crewelmarsh_block_check(least, 12).answer == 0 && none.start == 0 && none.length == 0 &&
            is_answer(crewelmarsh_symmetric_eigen(0, 60, NULL, 0, NULL, 0, NULL, 0), 0, 0, 0) &&
            is_answer(crewelmarsh_svd(0, 0, 1, 1, 60, NULL, 0, NULL, 0, NULL, 0), 0, 0, 1) &&
            is_answer(crewelmarsh_solve(0, 0, 1, 1, 0.0, NULL, 0, NULL, 0, NULL, 0), 0, 0, 0) &&

@@ -1,6 +1,8 @@
 //! `patched` behind the C entries of include/crewelmarsh.h: an archive that stands in for the real one where a
 //! test or a driver is tried by itself.
 
+#[allow(dead_code)]
+mod block;
 // The method `hypot01` has no entry.
 #[allow(dead_code)]
 mod hypot;
@@ -121,4 +123,107 @@ pub unsafe extern "C" fn crewelmarsh_qr_q_abi2(
     answer_len: usize,
 ) -> Answer {
     unsafe { patched::qr_q(m, k, lent(matrix, matrix_len), lent_mut(answer, answer_len)) }
+}
+
+// ---------------------------------------------------------------- transform blocks
+
+unsafe fn bytes<'a>(start: *const u8, len: usize) -> &'a [u8] {
+    if len == 0 { &[] } else { unsafe { slice::from_raw_parts(start, len) } }
+}
+
+fn word(x: &f64) -> u64 {
+    if x.is_nan() { 0x7ff8_0000_0000_0000 } else { x.to_bits() }
+}
+
+fn refused(answer: usize) -> Answer {
+    Answer { answer, place: 0, index: 0, count: 0 }
+}
+
+#[repr(C)]
+pub struct Shape {
+    answer: usize,
+    rows: usize,
+    columns: usize,
+    parts: usize,
+}
+
+#[unsafe(no_mangle)]
+pub unsafe extern "C" fn crewelmarsh_block_check_abi2(block: *const u8, block_len: usize) -> Shape {
+    match block::read(unsafe { bytes(block, block_len) }) {
+        Ok(b) => Shape { answer: 0, rows: b.rows, columns: b.columns, parts: b.parts.len() },
+        Err(answer) => Shape { answer, rows: 0, columns: 0, parts: 0 },
+    }
+}
+
+#[repr(C)]
+pub struct Found {
+    block: usize,
+    start: usize,
+    count: usize,
+}
+
+#[unsafe(no_mangle)]
+pub unsafe extern "C" fn crewelmarsh_block_find_abi2(
+    own: *const u8,
+    own_len: usize,
+    main_block: *const u8,
+    main_len: usize,
+    kind: usize,
+) -> Found {
+    let (block, start, count) = unsafe { block::find(bytes(own, own_len), bytes(main_block, main_len), kind) };
+    Found { block, start, count }
+}
+
+#[unsafe(no_mangle)]
+pub unsafe extern "C" fn crewelmarsh_block_copy_abi2(
+    own: *const u8,
+    own_len: usize,
+    main_block: *const u8,
+    main_len: usize,
+    kind: usize,
+    out: *mut f64,
+    out_len: usize,
+) -> Answer {
+    let words = unsafe { block::numbers(bytes(own, own_len), bytes(main_block, main_len), kind) };
+    if words.len() != out_len {
+        return refused(6);
+    }
+    let out = unsafe { lent_mut(out, out_len) };
+    out.iter_mut().zip(words).for_each(|(x, w)| *x = f64::from_bits(w));
+    refused(0)
+}
+
+#[unsafe(no_mangle)]
+pub extern "C" fn crewelmarsh_block_length_abi2(
+    rows: usize,
+    columns: usize,
+    parts: usize,
+    kind1: usize,
+    kind2: usize,
+    kind3: usize,
+) -> usize {
+    block::length(rows, columns, parts, [kind1, kind2, kind3])
+}
+
+#[unsafe(no_mangle)]
+pub unsafe extern "C" fn crewelmarsh_block_write_abi2(
+    rows: usize,
+    columns: usize,
+    parts: usize,
+    kind1: usize,
+    numbers1: *const f64,
+    len1: usize,
+    kind2: usize,
+    numbers2: *const f64,
+    len2: usize,
+    kind3: usize,
+    numbers3: *const f64,
+    len3: usize,
+    out: *mut u8,
+    out_len: usize,
+) -> Answer {
+    let words = |start, len| unsafe { lent(start, len) }.iter().map(word).collect();
+    let given = [(kind1, words(numbers1, len1)), (kind2, words(numbers2, len2)), (kind3, words(numbers3, len3))];
+    let out = if out_len == 0 { &mut [] } else { unsafe { slice::from_raw_parts_mut(out, out_len) } };
+    refused(block::write(rows, columns, parts, &given, out))
 }

@@ -1,5 +1,7 @@
 //! Document 000 as it is (`plain`), document 000 with 01's patches (`patched`), and cases for comparing with them.
 
+pub mod block;
+pub mod blocks;
 pub mod cases;
 pub mod findings;
 pub mod hypot;

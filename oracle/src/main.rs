@@ -1,7 +1,7 @@
-//! The oracle's commands: `list`, `agreed`, `fresh SEED CASES LARGEST`, `check SEED CASES LARGEST`, `findings`.
+//! The oracle's commands: `list`, `agreed`, `blocks`, `blocks-wanted`, `fresh SEED CASES LARGEST`, `check SEED CASES LARGEST`, `findings`.
 
 use oracle::cases::*;
-use oracle::{findings, plain, special};
+use oracle::{blocks, findings, plain, special};
 use std::io::{self, BufWriter, Write};
 
 /// Words of a result up to this many stand in the committed list; a longer one is there by its hash.
@@ -128,6 +128,8 @@ fn main() -> io::Result<()> {
     match words.first().map(String::as_str) {
         Some("list") => list(&mut out)?,
         Some("agreed") => agreed(&mut out)?,
+        Some("blocks") => blocks::list(&mut out)?,
+        Some("blocks-wanted") => blocks::wanted(&mut out)?,
         Some("fresh") => fresh(&mut out, number(1, 1), number(2, 100_000) as usize, number(3, 12))?,
         Some("check") => {
             drop(out);
@@ -137,7 +139,7 @@ fn main() -> io::Result<()> {
             return Ok(());
         }
         Some("findings") => findings::print(),
-        _ => eprintln!("oracle list | oracle agreed | oracle findings | oracle fresh SEED CASES LARGEST | oracle check SEED CASES LARGEST"),
+        _ => eprintln!("oracle list | oracle agreed | oracle blocks | oracle blocks-wanted | oracle findings | oracle fresh SEED CASES LARGEST | oracle check SEED CASES LARGEST"),
     }
     out.flush()
 }

@@ -1,5 +1,5 @@
 // The entries that a C codec calls. Each hands on to the function of its name and keeps its promise. A slice is a pointer and
-// a length in C; what comes back is the header's struct crewelmarsh_answer, or crewelmarsh_extent. The number at a name's end is the
+// a length in C; what comes back is a struct of the header, of up to four numbers, or one number. The number at a name's end is the
 // header's major version, so that a program built with a header of another one doesn't link.
 ghost use mathlib.Core.Path.{_≡_};
 ghost use Rattle.eigen.specs.Eigen.{eigen};
@@ -7,7 +7,12 @@ ghost use Rattle.svd.specs.Svd.{svd};
 ghost use Rattle.row.specs.Row.{rowSpan, extentOf};
 ghost use Rattle.solve.specs.Solve.{solve, pseudoInverse};
 ghost use Rattle.qr.specs.Qr.{qrQ};
+ghost use Rattle.blockread.specs.Held.{shapeOf};
+ghost use Rattle.blockread.specs.Lookup.{found, copied};
+ghost use Rattle.blockwrite.specs.Writing.{given, doubles, lengthOf, written};
 use answers::Answer;
+use blockread::Found;
+use blockread::Shape;
 use row::Extent;
 
 #[no_mangle]
@@ -103,4 +108,75 @@ pub extern "C" fn crewelmarsh_qr_q_abi2(
     ensures { λ r. ⌜ (r, now (answer .exit)) ≡ qrQ m k (now (matrix .entry)) (now (answer .entry)) ⌝ }
 {
     qr::qr_q(m, k, matrix, answer)
+}
+
+// ---- transform blocks
+
+#[no_mangle]
+pub extern "C" fn crewelmarsh_block_check_abi2(block: &[u8]) -> Shape
+    ensures { λ r. ⌜ r ≡ shapeOf (now (block .entry)) ⌝ }
+{
+    blockread::shape_of(block)
+}
+
+#[no_mangle]
+pub extern "C" fn crewelmarsh_block_find_abi2(own: &[u8], main_block: &[u8], kind: usize) -> Found
+    ensures { λ r. ⌜ r ≡ found (now (own .entry)) (now («main_block» .entry)) kind ⌝ }
+{
+    blockread::locate(own, main_block, kind)
+}
+
+#[no_mangle]
+pub extern "C" fn crewelmarsh_block_copy_abi2<'a>(
+    own: &'a [u8],
+    main_block: &'a [u8],
+    kind: usize,
+    out: &mut [f64],
+) -> Answer
+    ensures { λ r. ⌜ (r, now (out .exit)) ≡ copied (now (own .entry)) (now («main_block» .entry)) kind (now (out .entry)) ⌝ }
+{
+    blockread::copy(own, main_block, kind, out)
+}
+
+#[no_mangle]
+pub extern "C" fn crewelmarsh_block_length_abi2(
+    rows: usize,
+    columns: usize,
+    parts: usize,
+    kind1: usize,
+    kind2: usize,
+    kind3: usize,
+) -> usize
+    ensures { λ r. ⌜ r ≡ lengthOf rows columns parts kind1 kind2 kind3 ⌝ }
+{
+    blockwrite::length_of(rows, columns, parts, kind1, kind2, kind3)
+}
+
+#[no_mangle]
+pub extern "C" fn crewelmarsh_block_write_abi2(
+    rows: usize,
+    columns: usize,
+    parts: usize,
+    kind1: usize,
+    numbers1: &[f64],
+    kind2: usize,
+    numbers2: &[f64],
+    kind3: usize,
+    numbers3: &[f64],
+    out: &mut [u8],
+) -> Answer
+    ensures { λ r. ⌜ (r, now (out .exit)) ≡ written rows columns parts (given parts (doubles kind1 (now (numbers1 .entry))) (doubles kind2 (now (numbers2 .entry))) (doubles kind3 (now (numbers3 .entry)))) (now (out .entry)) ⌝ }
+{
+    blockwrite::write_doubles(
+        rows,
+        columns,
+        parts,
+        kind1,
+        numbers1,
+        kind2,
+        numbers2,
+        kind3,
+        numbers3,
+        out,
+    )
 }

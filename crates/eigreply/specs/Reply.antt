@@ -4,7 +4,8 @@ use Prim.Native.Nat.{ℕ, _+_, _*_}
 use Rattle.grid.specs.Real.{Vec, zeros}
 use Rattle.answers.specs.declared.Answer.{Answer}
 use Rattle.eigen.specs.Eigen.{eigen}
-use Rattle.text.specs.Reading.{Text, good, bad, reading, float}
+use Rattle.text.specs.Reading.{Text, good, bad, reading}
+use Rattle.octets.specs.Bits.{float}
 use Rattle.text.specs.Writing.{answerText, badText}
 
 -- an outcome's text: its four numbers, and of its result the values and the vectors

@@ -10,7 +10,8 @@ use Rattle.grid.specs.Real.{Vec, zero64, zeros}
 use Rattle.eigen.specs.Eigen.{eigen}
 use Rattle.text.specs.declared.Reading.{Reading}
 use Rattle.text.specs.declared.Reading.the-variants.{Good, Bad}
-use Rattle.text.specs.Reading.{Text, good, bad, reading, outcome, float}
+use Rattle.text.specs.Reading.{Text, good, bad, reading, outcome}
+use Rattle.octets.specs.Bits.{float}
 use Rattle.text.specs.Accepts.{Written}
 use Rattle.text.specs.AcceptsLaws.{accepted}
 use Rattle.text.specs.Writing.{badText, written}

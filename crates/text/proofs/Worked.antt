@@ -6,7 +6,8 @@ use Prim.Native.Nat.{ℕ}
 use Prim.Native.Char.{code}
 use Prim.Native.String.{String, [], _∷_}
 use lib.Ieee.{Float, binary64, isNan, ofBits, toBits}
-use Rattle.text.specs.Writing.{glyph, digits, placesFrom, places, number, joined, separator, group, lines, writing, bits, bitsAt, shown, answerText, badText}
+use Rattle.text.specs.Writing.{glyph, digits, placesFrom, places, number, joined, separator, group, lines, writing, bitsAt, shown, answerText, badText}
+use Rattle.octets.specs.Bits.{bits}
 use Rattle.text.specs.Reading.{Text, good, bad, value, numberOf, numberAt, head, every, groupAt, horner, wordAt, table, wordsRead, reading}
 
 abbrev bytes : String → List ℕ

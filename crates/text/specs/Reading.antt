@@ -5,7 +5,8 @@ use Prim.Native.Nat.{ℕ, zero, suc, _+_, _-_, _*_, _%_, _^_}
 use lib.Dec.{ltb, leb, eqb}
 use lib.ListN.{length, getD}
 use lib.Seq.{sets}
-use lib.Ieee.{Float, nan, binary64, ofBits}
+use lib.Ieee.{Float}
+use Rattle.octets.specs.Bits.{float}
 use Rattle.text.specs.Writing.{separator}
 use Rattle.text.specs.declared.Reading.{Reading}
 use Rattle.text.specs.declared.Reading.the-variants as reading-is
@@ -103,10 +104,6 @@ unfoldable pub reading : List ℕ → Text
 reading t = readingOf t (head t)
 
 -- ---- the numbers
-
--- the number with those bits; every NaN is the one that the logic has
-unfoldable pub float : ℕ → Float
-float b = cond (ltb 0x7ff0_0000_0000_0000 (b % 2 ^ 63)) nan (ofBits binary64 b)
 
 -- what reading answers and leaves in the matrix: the words at its front, what goes past the end being dropped
 abbrev pub outcome : Text → List Float → Reading × List Float

@@ -13,17 +13,13 @@ use lib.ListN.{length, set, length-append}
 use lib.Seq.{sets, set-comm}
 use lib.Ieee.{Float}
 use Rattle.text.specs.Writing.{glyph, digits, placesFrom, places, number, joined, separator, group, lines, written, bitsAt, shown, firstLine, answerText}
-use Rattle.text.specs.Reading.{wordAt, table, float}
+use Rattle.octets.specs.Bits.{float}
+use Rattle.octets.specs.StoreLaws.{sets-append}
+use Rattle.text.specs.Reading.{wordAt, table}
 use Rattle.text.specs.Laws.{digits-length}
 use Rattle.text.specs.AcceptsLaws.{table-length, lines-length}
 
 module _ {A : Type 0} where
-  pub sets-append : (l : List A) (i : ℕ) (vs ws : List A) → sets l i (vs ++ ws) ≡ sets (sets l i vs) (i + length vs) ws
-  sets-append l i [] ws = rw (add-zero i)
-  sets-append l i (a ∷ vs) ws =
-      let e : suc i + length vs ≡ i + suc (length vs) = suc-add i (length vs) ∙ sym (add-suc i (length vs)) in
-      sets-append (set l i a) (suc i) vs ws ∙ ap (λ (j : ℕ). sets (sets (set l i a) (suc i) vs) j ws) e
-
   -- one more
   pub sets-more : (l : List A) (i k : ℕ) (vs : List A) (a : A) → i + length vs ≡ k → set (sets l i vs) k a ≡ sets l i (vs ++ (a ∷ []))
   sets-more l i k vs a e = rw (← e) (sym (sets-append l i vs (a ∷ [])))

@@ -5,7 +5,8 @@ use Prim.Native.Nat.{ℕ, zero, suc, _+_, _*_, _/_, _%_}
 use lib.Dec.{ltb, leb, eqb}
 use lib.ListN.{length, getD}
 use lib.Seq.{sets}
-use lib.Ieee.{Float, nan, binary64, isNan, toBits}
+use lib.Ieee.{Float, nan}
+use Rattle.octets.specs.Bits.{bits}
 
 -- a digit below 16: 0 to 9, then a to f
 unfoldable pub glyph : ℕ → ℕ
@@ -54,10 +55,6 @@ unfoldable pub writing : ℕ → ℕ → List ℕ → List ℕ
 writing n limit ws = number n 32 ++ number limit 10 ++ lines n (wordOf ws) (n * n)
 
 -- ---- the answer
-
--- the bits of a number; the logic has one NaN, and its bits are written so
-unfoldable pub bits : Float → ℕ
-bits x = cond (isNan x) 0x7ff8_0000_0000_0000 (toBits binary64 x)
 
 unfoldable pub bitsAt : List Float → ℕ → ℕ
 bitsAt result k = bits (getD result k nan)

@@ -6,9 +6,11 @@ ghost use mathlib.Core.List.{_++_};
 ghost use Prim.Native.Nat.{_+_, _*_, _<_, _≤_};
 ghost use lib.ListN.{set};
 ghost use lib.Seq.{sets};
-ghost use Rattle.text.specs.Writing.{glyph, digits, places, number, separator, group, lines, written, bits, bitsAt, shown, firstLine, answerText, badText};
-ghost use Rattle.text.specs.Reading.{byte, value, numberAt, limitOf, head, every, digitAt, groupAt, wordAt, table, float, wordsRead, reading, outcome};
+ghost use Rattle.text.specs.Writing.{glyph, digits, places, number, separator, group, lines, written, bitsAt, shown, firstLine, answerText, badText};
+ghost use Rattle.text.specs.Reading.{byte, value, numberAt, limitOf, head, every, digitAt, groupAt, wordAt, table, wordsRead, reading, outcome};
 ghost use Rattle.text.specs.Stores.{append, floatAt};
+use octets::bits;
+use octets::float;
 
 // What a text gives: the size and the limit of its first line, its numbers standing in the matrix, or nothing.
 pub enum Reading {
@@ -180,26 +182,6 @@ fn word(t: &[u8], at: usize) -> u64
         w = w * 16 + value(byte(t, at + i)) as u64;
     }
     w
-}
-
-// The f64 with those bits, and for a NaN's bits the NaN.
-fn float(b: u64) -> f64
-    ensures { λ r. ⌜ r ≡ float b ⌝ }
-{
-    if b % 0x8000_0000_0000_0000 <= 0x7ff0_0000_0000_0000 {
-        return f64::from_bits(b);
-    }
-    0.0 / 0.0
-}
-
-// The bits of x, and 7ff8000000000000 for a NaN.
-fn bits(x: f64) -> u64
-    ensures { λ r. ⌜ r ≡ bits x ⌝ }
-{
-    if x != x {
-        return 0x7ff8_0000_0000_0000;
-    }
-    f64::to_bits(x)
 }
 
 // A store that minds the end.

@@ -5,7 +5,8 @@ use borrow.Author.Needs.{needs}
 use lib.Ieee.{nan, isNan}
 use lib.ListN.{List·getD-eq-default}
 use denote.Ref.{now}
-use Rattle.text.specs.Writing.{bits, bitsAt}
+use Rattle.text.specs.Writing.{bitsAt}
+use Rattle.octets.specs.Bits.{bits}
 use Rattle.text.proofs.bits_at.Statement.{statement}
 use Rattle.text.proofs.bits_at.Tie as tie
 

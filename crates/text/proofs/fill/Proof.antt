@@ -6,10 +6,11 @@ use native.Mathlib.Omega.{arith}
 use borrow.Author.Needs.{needs}
 use lib.ListN.{length, set}
 use lib.Seq.{sets}
-use Rattle.text.specs.Reading.{table, float, digitAt, groupAt, every, byte}
+use Rattle.text.specs.Reading.{table, digitAt, groupAt, every, byte}
 use Rattle.text.specs.Writing.{separator}
 use Rattle.text.specs.Laws.{both, every-at}
 use Rattle.text.specs.Stores.{floatAt, table-more}
+use Rattle.octets.specs.Bits.{float}
 use lib.Ieee.{Float}
 use lib.Dec.{eqb}
 use mathlib.Core.Bool.{true}

@@ -4,7 +4,8 @@ use mathlib.Core.Path.{_∙_, refl, sym}
 use Prim.Native.Nat.{_+_, _*_}
 use native.Mathlib.Omega.{arith}
 use borrow.Author.Needs.{needs}
-use Rattle.text.specs.Reading.{wordsRead, float, wordAt}
+use Rattle.text.specs.Reading.{wordsRead, wordAt}
+use Rattle.octets.specs.Bits.{float}
 use Rattle.text.specs.Stores.{table-map}
 use borrow.Author.Tests.{eq-eqb, ne-eqb, not-true, not-false}
 use native.Mathlib.Nat.{mul-le-mul}

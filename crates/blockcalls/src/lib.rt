@@ -1,0 +1,1 @@
+// What holds of the calls on transform blocks. There is no code here: specs/ has the theorems.

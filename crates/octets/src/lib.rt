@@ -1,0 +1,129 @@
+// Whole numbers as big-endian bytes and doubles by their 64 bits, both ways.
+ghost use mathlib.Core.Path.{_≡_};
+ghost use mathlib.Core.List.{map};
+ghost use Prim.Native.Nat.{_+_, _*_, _^_, _<_, _≤_};
+ghost use lib.ListN.{length};
+ghost use lib.Seq.{sets};
+ghost use Rattle.octets.specs.Bytes.{be, num, three, wordsBytes, wordsAt};
+ghost use Rattle.octets.specs.Bits.{float, bits};
+
+// ---- doubles by their bits
+
+// The f64 with those bits, and for a NaN's bits the NaN.
+pub fn float(b: u64) -> f64
+    ensures { λ r. ⌜ r ≡ float b ⌝ }
+{
+    if b % 0x8000_0000_0000_0000 <= 0x7ff0_0000_0000_0000 {
+        return f64::from_bits(b);
+    }
+    0.0 / 0.0
+}
+
+// The bits of x, and 7ff8000000000000 for a NaN.
+pub fn bits(x: f64) -> u64
+    ensures { λ r. ⌜ r ≡ bits x ⌝ }
+{
+    if x != x {
+        return 0x7ff8_0000_0000_0000;
+    }
+    f64::to_bits(x)
+}
+
+// ---- reading
+
+// The big-endian u32 at `at`.
+pub fn number(t: &[u8], at: usize) -> usize
+    requires { ⌜ at + 4 ≤ length (now t) ⌝ }
+    ensures { λ r. ⌜ r ≡ num 4 (now (t .entry)) at ⌝ }
+    ensures { λ r. ⌜ r < 4294967296 ⌝ }
+{
+    let a = t[at] as usize;
+    let b = t[at + 1] as usize;
+    let c = t[at + 2] as usize;
+    let d = t[at + 3] as usize;
+    ((a * 256 + b) * 256 + c) * 256 + d
+}
+
+// The big-endian u64 at `at`.
+fn word(t: &[u8], at: usize) -> u64
+    requires { ⌜ at + 8 ≤ length (now t) ⌝ }
+    ensures { λ r. ⌜ r ≡ num 8 (now (t .entry)) at ⌝ }
+{
+    let high = number(t, at) as u64;
+    let low = number(t, at + 4) as u64;
+    high * 4294967296 + low
+}
+
+// As many doubles as out has, from the front of t.
+pub fn floats(t: &[u8], out: &mut [f64])
+    requires { ⌜ 8 * length (now out) ≤ length (now t) ⌝ }
+    ensures { λ _. ⌜ now (out .exit) ≡ map float (wordsAt (now (t .entry)) 0 (length (now (out .entry)))) ⌝ }
+{
+    let mut i = 0;
+    while i < out.len() {
+        out[i] = float(word(t, 8 * i));
+        i += 1;
+    }
+}
+
+// ---- writing
+
+// A big-endian u32.
+fn put_four(out: &mut [u8], at: usize, x: usize)
+    requires { ⌜ at + 4 ≤ length (now out) ⌝ }
+    ensures { λ _. ⌜ now (out .exit) ≡ sets (now (out .entry)) at (be 4 x) ⌝ }
+{
+    out[at] = (x / 256 / 256 / 256 % 256) as u8;
+    out[at + 1] = (x / 256 / 256 % 256) as u8;
+    out[at + 2] = (x / 256 % 256) as u8;
+    out[at + 3] = (x % 256) as u8;
+}
+
+// A big-endian u64.
+fn put_eight(out: &mut [u8], at: usize, x: u64)
+    requires { ⌜ at + 8 ≤ length (now out) ⌝ }
+    ensures { λ _. ⌜ now (out .exit) ≡ sets (now (out .entry)) at (be 8 x) ⌝ }
+{
+    out[at] = (x / 256 / 256 / 256 / 256 / 256 / 256 / 256 % 256) as u8;
+    out[at + 1] = (x / 256 / 256 / 256 / 256 / 256 / 256 % 256) as u8;
+    out[at + 2] = (x / 256 / 256 / 256 / 256 / 256 % 256) as u8;
+    out[at + 3] = (x / 256 / 256 / 256 / 256 % 256) as u8;
+    out[at + 4] = (x / 256 / 256 / 256 % 256) as u8;
+    out[at + 5] = (x / 256 / 256 % 256) as u8;
+    out[at + 6] = (x / 256 % 256) as u8;
+    out[at + 7] = (x % 256) as u8;
+}
+
+// Three u32, one behind the other.
+pub fn put_three(out: &mut [u8], at: usize, a: usize, b: usize, c: usize)
+    requires { ⌜ at + 12 ≤ length (now out) ⌝ }
+    ensures { λ _. ⌜ now (out .exit) ≡ sets (now (out .entry)) at (three a b c) ⌝ }
+{
+    put_four(out, at, a);
+    put_four(out, at + 4, b);
+    put_four(out, at + 8, c);
+}
+
+// Words, one behind the other.
+pub fn put_words(out: &mut [u8], at: usize, words: &[u64])
+    requires { ⌜ at + 8 * length (now words) ≤ length (now out) ⌝ }
+    ensures { λ _. ⌜ now (out .exit) ≡ sets (now (out .entry)) at (wordsBytes (now (words .entry))) ⌝ }
+{
+    let mut i = 0;
+    while i < words.len() {
+        put_eight(out, at + 8 * i, words[i]);
+        i += 1;
+    }
+}
+
+// Doubles by their bits, one behind the other.
+pub fn put_floats(out: &mut [u8], at: usize, xs: &[f64])
+    requires { ⌜ at + 8 * length (now xs) ≤ length (now out) ⌝ }
+    ensures { λ _. ⌜ now (out .exit) ≡ sets (now (out .entry)) at (wordsBytes (map bits (now (xs .entry)))) ⌝ }
+{
+    let mut i = 0;
+    while i < xs.len() {
+        put_eight(out, at + 8 * i, bits(xs[i]));
+        i += 1;
+    }
+}
