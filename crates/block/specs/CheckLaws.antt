@@ -5,7 +5,7 @@ use mathlib.Core.List.{List}
 use Prim.Native.Nat.{ℕ, zero, suc, _+_, _-_, _*_, _≤_, _<_}
 use native.Mathlib.Nat.{le-antisymm}
 use native.Mathlib.Omega.{arith}
-use borrow.Author.Tests.{ltb-true, ltb-false, leb-true, leb-false, eqb-true, eqb-false, lt-ltb, le-ltb, le-leb, lt-leb, eq-eqb, ne-eqb}
+use borrow.Author.Tests.{ltb-false, leb-false, eqb-true, eqb-false, le-ltb, lt-leb, eq-eqb, ne-eqb}
 use lib.Dec.{ltb, leb, eqb}
 use lib.ListN.{length}
 use Rattle.answers.specs.Answers.{least}
@@ -30,12 +30,6 @@ or-else a b = go (eqb a 0) refl
     go : (x : Bool) → eqb a 0 ≡ x → cond x b a ≡ 0 → (a ≡ 0) × (b ≡ 0)
     go true e h = (eqb-true a 0 e, h)
     go false e h = absurd (eqb-false a 0 e h)
-
-pub or-first : (a b : ℕ) → a ≡ 0 → orElse a b ≡ b
-or-first a b e = rw (eq-eqb a 0 e)
-
-pub or-refused : (a b : ℕ) → (a ≡ 0 → ⊥) → orElse a b ≡ a
-or-refused a b e = rw (ne-eqb a 0 e)
 
 pub or-zero : (a : ℕ) → orElse a 0 ≡ a
 or-zero a = go (eqb a 0) refl

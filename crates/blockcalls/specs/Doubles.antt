@@ -2,12 +2,12 @@
 use mathlib.Core.Path.{_≡_, refl, sym, ap, _∙_, subst}
 use mathlib.Core.Bool.{Bool, true, false, cond, not, true≢false}
 use mathlib.Core.List.{List, [], _∷_, map}
-use Prim.Native.Nat.{ℕ, zero, suc, _*_, _%_, _^_, _<_}
+use Prim.Native.Nat.{ℕ, zero, suc, _%_, _^_, _<_}
 use native.Mathlib.Nat.{not-suc-le-zero}
 use native.Mathlib.Omega.{arith}
 use borrow.Author.Tests.{eq-eqb}
-use lib.Dec.{T, ltb, eqb}
-use lib.ListN.{length, getD, length-map}
+use lib.Dec.{T, ltb}
+use lib.ListN.{length, length-map}
 use lib.Ieee.{Float, nan, inf, fin, binary64, isNan, fits, toBits, ofBits}
 use lib.Ieee.Bits.{ofBits-toBits, toBits-lt, toBits-ofBits, nanBits-is, nanBits-above}
 use Rattle.grid.specs.Real.{Vec}
@@ -17,7 +17,7 @@ use Rattle.octets.specs.BytesLaws.{Bytes}
 use Rattle.block.specs.Content.{Part, Words}
 use Rattle.block.specs.Reading.{good, reading}
 use Rattle.blockread.specs.Lookup.{copied}
-use Rattle.blockcalls.specs.Sound.{Doubles, hasPart, partWords, hasIn, wordsIn}
+use Rattle.blockcalls.specs.Sound.{Doubles, hasPart, partWords}
 use Rattle.blockcalls.specs.FoundLaws.{copied-is}
 
 -- ---- one double

@@ -3,22 +3,22 @@ use mathlib.Core.Path.{_≡_, refl, sym, ap, _∙_}
 use mathlib.Core.Logic.{_↔_}
 use mathlib.Core.Bool.{Bool, true, false, cond}
 use mathlib.Core.List.{List, [], _∷_, _++_}
-use Prim.Native.Nat.{ℕ, zero, suc, _+_, _-_, _*_, _^_, _≤_, _<_}
+use Prim.Native.Nat.{ℕ, zero, suc, _+_, _-_, _*_, _≤_}
 use native.Mathlib.Omega.{arith}
 use borrow.Author.Tests.{le-ltb, eq-eqb, eqb-true, eqb-false}
-use lib.Dec.{ltb, eqb}
-use lib.ListN.{length, getD, take, drop, length-append, length-drop, take-append-drop}
+use lib.Dec.{eqb}
+use lib.ListN.{length, take, drop, length-append, length-drop, take-append-drop}
 use lib.Seq.{drop-drop, drop-length}
 use Rattle.answers.specs.Answers.{done, refused}
 use Rattle.answers.specs.declared.Answer.{Answer}
 use Rattle.octets.specs.Bytes.{three, wordsBytes, num, wordsAt}
 use Rattle.octets.specs.BytesLaws.{Bytes, parts, front, take-two, part-length, three-length, three-spelled, Three, three-taken, wordsBytes-length, wordsAt-length, words-spelled, words-bound, words-taken}
-use Rattle.block.specs.Content.{Part, size, Words, Parts, Content, heads, entriesBytes, numbersBytes, blockOf}
-use Rattle.block.specs.Reading.{orElse, dimensions, headAnswer, entryAnswer, ended, entries, behind, answerOf, partsAt, Text, good, reading}
+use Rattle.block.specs.Content.{Part, size, Parts, Content, heads, entriesBytes, numbersBytes, blockOf}
+use Rattle.block.specs.Reading.{dimensions, headAnswer, entryAnswer, entries, behind, answerOf, partsAt, good, reading}
 use Rattle.block.specs.Reading as reads
 use Rattle.block.specs.CheckLaws.{size-most, or-else, dimensions-good, dimensions-pass, head-good, head-pass, entry-good, entry-pass, ended-good, ended-pass, Opened, opened, entries-within}
 use Rattle.blockwrite.specs.Writing.{given, headsAnswer, checked, bytesOf, written}
-use Rattle.blockwrite.specs.PutLaws.{counts, heads-length, entriesBytes-length, block-length, with-is, given-length, taken-checked, split}
+use Rattle.blockwrite.specs.PutLaws.{counts, heads-length, entriesBytes-length, block-length, with-is}
 use Rattle.blockcalls.specs.Sound.{IsBlock, Numbers}
 
 -- ---- what is read is what is written

@@ -14,7 +14,8 @@ use Rattle.blockread.specs.declared.Shape.{Shape}
 use Rattle.blockread.specs.declared.Found.{Found}
 use Rattle.blockwrite.specs.Writing.{lengthOf, written}
 
-one-outcome : {A : Type 0} (x o p : A) → o ≡ x → p ≡ x → o ≡ p
+-- of any promise that is one equation
+pub one-outcome : {A : Type 0} (x o p : A) → o ≡ x → p ≡ x → o ≡ p
 one-outcome x o p e f = e ∙ sym f
 
 pub check-one : (t : List ℕ) (o p : Answer) → o ≡ refused (answerOf t) 0 → p ≡ refused (answerOf t) 0 → o ≡ p

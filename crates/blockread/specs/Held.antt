@@ -1,7 +1,7 @@
 -- The reader's record: what a block holds, by the places of its parts. Definitions only.
 use mathlib.Core.Bool.{cond}
 use mathlib.Core.List.{List}
-use Prim.Native.Nat.{ℕ, zero, suc, _+_, _*_}
+use Prim.Native.Nat.{ℕ, zero, suc, _+_}
 use lib.Dec.{eqb}
 use Rattle.answers.specs.Answers.{done, refused}
 use Rattle.octets.specs.Bytes.{num}

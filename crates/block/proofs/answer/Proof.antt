@@ -4,8 +4,7 @@ use mathlib.Core.Path.{_∙_, sym}
 use native.Mathlib.Omega.{arith}
 use borrow.Author.Tests.{eq-eqb, ne-eqb, lt-ltb, le-ltb}
 use Rattle.block.specs.Reading.{answerOf, behind}
-use Rattle.block.specs.CheckLaws.{Sized, dimensions-good}
-use denote.Ref.{now}
+use Rattle.block.specs.CheckLaws.{dimensions-good}
 use Rattle.block.proofs.answer.Statement.{statement}
 use Rattle.block.proofs.answer.Tie as tie
 

@@ -3,7 +3,6 @@
 use native.Mathlib.Omega.{arith}
 use borrow.Author.Needs.{needs}
 use borrow.Author.Tests.{eq-eqb, ne-eqb}
-use denote.Ref.{now}
 use Rattle.blockread.proofs.copy_part.Statement.{statement}
 use Rattle.blockread.proofs.copy_part.Tie as tie
 

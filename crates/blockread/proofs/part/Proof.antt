@@ -6,7 +6,7 @@ use borrow.Author.Needs.{needs}
 use lib.ListN.{length}
 use Rattle.blockread.specs.declared.Span.{Span}
 use Rattle.blockread.specs.declared.Span.the-variants.{At}
-use Rattle.blockread.specs.Lookup.{partOf, partAt, spanOf}
+use Rattle.blockread.specs.Lookup.{partOf, partAt}
 use Rattle.blockread.specs.LookupLaws.{Within}
 use denote.Ref.{now, ptr}
 use Rattle.blockread.proofs.part.Statement.{statement}

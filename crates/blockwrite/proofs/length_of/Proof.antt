@@ -4,7 +4,7 @@ use mathlib.Core.Path.{_∙_, sym}
 use native.Mathlib.Omega.{arith}
 use borrow.Author.Needs.{needs}
 use borrow.Author.Tests.{eq-eqb, ne-eqb}
-use Rattle.block.specs.CheckLaws.{dimensions-good, or-refused}
+use Rattle.block.specs.CheckLaws.{dimensions-good}
 use Rattle.blockwrite.specs.Writing.{lengthOf, checked}
 use Rattle.blockwrite.specs.PutLaws.{taken-checked}
 use Rattle.blockwrite.proofs.length_of.Statement.{statement}

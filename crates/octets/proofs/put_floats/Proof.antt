@@ -7,7 +7,6 @@ use borrow.Author.Needs.{needs}
 use lib.ListN.{length}
 use lib.Seq.{sets}
 use lib.ListN.{take, length-map}
-use lib.Ieee.{Float}
 use mathlib.Core.List.{map}
 use Rattle.octets.specs.Bytes.{wordsBytes}
 use Rattle.octets.specs.Bits.{bits}
