@@ -6,6 +6,8 @@
 # make install       archive, shared library, header and the rest under PREFIX; make release packs them (tools/install.mk)
 # make proofs-fresh  whether each generated Proof.antt is what tools/prove/prove.py writes today
 # make compare       fresh random cases against the Rust oracle: SEED=.. CASES=..
+# make compare-covariance
+#                    the covariance through the archive against 128-bit integers: SEED=..
 # make bench         document 000's Rust and the archive in one run
 # make bench-root    both ways to the square root, copied to C
 .PHONY: all test fmt kit proofs-fresh clean

@@ -1,5 +1,5 @@
 /*
- * What a codec does with Crewelmarsh: samples of a few bands, their covariance, its values and vectors,
+ * What a codec does with Crewelmarsh: planes of 16-bit samples, their covariance, its values and vectors,
  * the forward transform, the inverse, and the largest difference to the samples. Values and vectors then go into a
  * transform block, from which a decoder takes them for a tile that has no block of its own. Then an svd and a
  * pseudo-inverse of a small matrix.
@@ -10,6 +10,8 @@
 enum { BANDS = 5, SAMPLES = 1024 };
 enum { ROWS = 3, COLUMNS = 2, SMALLER = 2 };
 
+/* The planes: sample s of band b is at b * SAMPLES + s. */
+static int16_t planes[BANDS * SAMPLES];
 static double samples[SAMPLES][BANDS], centred[SAMPLES][BANDS];
 static double coded[SAMPLES][BANDS], decoded[SAMPLES][BANDS];
 static double mean[BANDS], covariance[BANDS * BANDS];
@@ -43,9 +45,9 @@ static void make_samples(void)
 {
     int s, b;
     for (s = 0; s < SAMPLES; s++) {
-        double scene = next_number() * 8.0;
+        unsigned scene = next_number() * 8;
         for (b = 0; b < BANDS; b++)
-            samples[s][b] = 100 + scene * (b + 1) / 2 + next_number() / 4;
+            planes[b * SAMPLES + s] = (int16_t)(100 + scene * (b + 1) / 2 + next_number() / 4);
     }
 }
 
@@ -54,29 +56,14 @@ static void centre(void)
     int s, b;
     for (b = 0; b < BANDS; b++) {
         mean[b] = 0;
-        for (s = 0; s < SAMPLES; s++)
+        for (s = 0; s < SAMPLES; s++) {
+            samples[s][b] = planes[b * SAMPLES + s];
             mean[b] += samples[s][b];
+        }
         mean[b] /= SAMPLES;
         for (s = 0; s < SAMPLES; s++)
             centred[s][b] = samples[s][b] - mean[b];
     }
-}
-
-static double covariance_of(int x, int y)
-{
-    double sum = 0;
-    int s;
-    for (s = 0; s < SAMPLES; s++)
-        sum += centred[s][x] * centred[s][y];
-    return sum / SAMPLES;
-}
-
-static void fill_covariance(void)
-{
-    int x, y;
-    for (x = 0; x < BANDS; x++)
-        for (y = 0; y < BANDS; y++)
-            covariance[x * BANDS + y] = covariance_of(x, y);
 }
 
 /* A sample times the vectors: component c is the sample along column c. */
@@ -125,14 +112,20 @@ static int transform_bands(void)
     int s, b;
     make_samples();
     centre();
-    fill_covariance();
+    a = crewelmarsh_covariance(BANDS, SAMPLES, planes, BANDS * SAMPLES, covariance, BANDS * BANDS);
+    if (!done("covariance", a))
+        return 0;
+    printf("covariance: %d bands of %d samples, first row times %d * %d", BANDS, SAMPLES, SAMPLES, SAMPLES);
+    for (b = 0; b < BANDS; b++)
+        printf(" %.0f", covariance[b]);
+    printf("\n");
     a = crewelmarsh_symmetric_eigen(BANDS, CREWELMARSH_MAX_LIMIT, covariance, BANDS * BANDS, work, BANDS,
                                     result, BANDS + BANDS * BANDS);
     if (!done("symmetric_eigen", a))
         return 0;
     printf("symmetric_eigen: %d bands, %zu passes, values", BANDS, a.count);
     for (b = 0; b < BANDS; b++)
-        printf(" %.4f", values[b]);
+        printf(" %.4f", values[b] / ((double)SAMPLES * SAMPLES));
     printf("\n");
 
     for (s = 0; s < SAMPLES; s++) {
@@ -224,10 +217,11 @@ static int pass_as_block(void)
     return largest_difference(own_values, values_back, BANDS) == 0 && largest_difference(vectors, vectors_back, BANDS * BANDS) == 0;
 }
 
-/* What a refusal looks like: 257 bands. */
+/* What a refusal looks like: 257 bands, and bands with no sample. */
 static void refuse(void)
 {
     done("symmetric_eigen of 257", crewelmarsh_symmetric_eigen(257, 60, NULL, 0, NULL, 0, NULL, 0));
+    done("covariance of no sample", crewelmarsh_covariance(3, 0, NULL, 0, NULL, 0));
 }
 
 int main(void)

@@ -20,6 +20,8 @@
  *     crewelmarsh_block_length      how long a block is
  *     crewelmarsh_block_write       a block from doubles
  *
+ * crewelmarsh_covariance makes the matrix that symmetric_eigen takes from bands of 16-bit samples, exactly.
+ *
  * WHAT IS ASKED OF A CALLER
  *
  * An array is lent as a pointer and a length in numbers (not bytes), a block as a pointer and a length in
@@ -89,6 +91,7 @@
 #define CREWELMARSH_H
 
 #include <stddef.h>
+#include <stdint.h>
 
 /*
  * The version; pkg-config, CMake and the shared library's name take it from here. Another major: programs
@@ -96,7 +99,7 @@
  * patch.
  */
 #define CREWELMARSH_VERSION_MAJOR 2
-#define CREWELMARSH_VERSION_MINOR 1
+#define CREWELMARSH_VERSION_MINOR 2
 #define CREWELMARSH_VERSION_PATCH 0
 #define CREWELMARSH_VERSION /* as a string */ \
     CREWELMARSH_DOTTED(CREWELMARSH_VERSION_MAJOR, CREWELMARSH_VERSION_MINOR, CREWELMARSH_VERSION_PATCH)
@@ -113,6 +116,7 @@
 #define crewelmarsh_block_copy CREWELMARSH_NAME(block_copy)
 #define crewelmarsh_block_length CREWELMARSH_NAME(block_length)
 #define crewelmarsh_block_write CREWELMARSH_NAME(block_write)
+#define crewelmarsh_covariance CREWELMARSH_NAME(covariance)
 
 /* The numbers are put in first, then pasted or quoted. */
 #define CREWELMARSH_NAME(name) CREWELMARSH_NUMBERED(crewelmarsh_##name##_abi, CREWELMARSH_VERSION_MAJOR)
@@ -137,6 +141,12 @@ enum {
     CREWELMARSH_MAX_DIMENSION = 256,
     CREWELMARSH_MIN_LIMIT = 1,
     CREWELMARSH_MAX_LIMIT = 60
+};
+
+/* How many samples a band may have (crewelmarsh_covariance). */
+enum {
+    CREWELMARSH_MIN_SAMPLES = 1,
+    CREWELMARSH_MAX_SAMPLES = 65536
 };
 
 /*
@@ -224,6 +234,19 @@ enum {
     CREWELMARSH_BLOCK_OFFSET = 24
 };
 
+/* Those of crewelmarsh_covariance. 25 leaves the matrix untouched, 26 fills it with +0.0. */
+enum {
+    /* The number of samples a band is not 1 to 65,536. Place 0.
+       Take fewer samples of each band, as every second one in both directions. */
+    CREWELMARSH_SAMPLES = 25,
+
+    /* An entry's magnitude is over 2^53, so that not every whole number near it is a double. Place: the first
+       such entry row by row, so bands place / n and place % n, the first not above the second.
+       Take fewer samples: with N of them an entry is at most N * N * 2^30, so that up to 2,896 always do, and
+       with samples of 12 bits (-2048 to 2047) up to 46,340. */
+    CREWELMARSH_ENTRY_OVER = 26
+};
+
 /* A short text for an answer number, for logs. Never NULL. */
 static inline const char *crewelmarsh_text(size_t answer)
 {
@@ -244,6 +267,8 @@ static inline const char *crewelmarsh_text(size_t answer)
     case CREWELMARSH_BLOCK_COUNT: return "a dimension, a number of parts or a count of the block is bad";
     case CREWELMARSH_BLOCK_KIND: return "a kind of the block is bad or out of order";
     case CREWELMARSH_BLOCK_OFFSET: return "an offset of the block is bad";
+    case CREWELMARSH_SAMPLES: return "the number of samples is outside 1 to 65,536";
+    case CREWELMARSH_ENTRY_OVER: return "an entry is over 2^53";
     default: return "no answer of crewelmarsh";
     }
 }
@@ -301,6 +326,13 @@ static inline const char *crewelmarsh_text(size_t answer)
 /* m * k */
 #define CREWELMARSH_QR_Q_ANSWER_LEN(m, k) CREWELMARSH_MATRIX_LEN(m, k)
 
+/* n * count, in samples. 0 also where count is over 65,536. */
+#define CREWELMARSH_COVARIANCE_SAMPLES_LEN(n, count) \
+    (CREWELMARSH_TAKEN(n) && CREWELMARSH_SIZE(count) <= CREWELMARSH_MAX_SAMPLES ? CREWELMARSH_SIZE(n) * CREWELMARSH_SIZE(count) : 0)
+
+/* n * n */
+#define CREWELMARSH_COVARIANCE_MATRIX_LEN(n) CREWELMARSH_MATRIX_LEN(n, n)
+
 static inline size_t crewelmarsh_matrix_len(size_t rows, size_t columns)
 {
     return CREWELMARSH_MATRIX_LEN(rows, columns);
@@ -349,6 +381,16 @@ static inline size_t crewelmarsh_pseudo_inverse_answer_len(size_t m, size_t n)
 static inline size_t crewelmarsh_qr_q_answer_len(size_t m, size_t k)
 {
     return CREWELMARSH_QR_Q_ANSWER_LEN(m, k);
+}
+
+static inline size_t crewelmarsh_covariance_samples_len(size_t n, size_t count)
+{
+    return CREWELMARSH_COVARIANCE_SAMPLES_LEN(n, count);
+}
+
+static inline size_t crewelmarsh_covariance_matrix_len(size_t n)
+{
+    return CREWELMARSH_COVARIANCE_MATRIX_LEN(n);
 }
 
 /*
@@ -656,6 +698,33 @@ struct crewelmarsh_answer crewelmarsh_block_write(
     size_t kind2, const double *numbers2, size_t len2,
     size_t kind3, const double *numbers3, size_t len3,
     unsigned char *out, size_t out_len);
+
+/*
+ * The covariances of n bands of N samples each, by N * N: the entry for bands x and y is N times the sum of x * y,
+ * less the product of their sums, worked out exactly in whole numbers and given without rounding (T21 of
+ * docs/PROMISES.md). So it is the same on every machine, and the matrix is symmetric bit for bit (T20). Its
+ * eigenvectors are the covariance's, its eigenvalues N * N times as large.
+ *
+ * n          bands, 0 to 256
+ * count      N, the samples of each band, 1 to 65,536, also where n is 0
+ * samples    n * N, only read, band by band: sample k of band x is at x * N + k. Aligned for int16_t. The length
+ *            counts samples
+ * matrix     n * n. On 0: the matrix, whole numbers of at most 2^53 in magnitude. No number on the diagonal is negative.
+ *            symmetric_eigen takes it: with a limit and lengths that are right it answers 0, 8, 9 or 10 (T23)
+ *
+ * Answers, index and count always 0:
+ *   0
+ *   1  n is over 256
+ *   25 N is not 1 to 65,536
+ *   6  place 0 samples, 1 matrix
+ *   26 place x * n + y: the first entry over 2^53, row by row, so x is not above y. The matrix is all +0.0
+ * The tests run in this order: 25 comes before 6. 1, 25 and 6 leave the matrix untouched.
+ */
+struct crewelmarsh_answer crewelmarsh_covariance(
+    size_t n,
+    size_t count,
+    const int16_t *samples, size_t samples_len,
+    double *matrix, size_t matrix_len);
 
 #ifdef __cplusplus
 }

@@ -1,6 +1,9 @@
 //! Times of document 000's Rust and of the archive's C entries, in one run on the same inputs: a table in Markdown.
 //! LAPACK is measured beside them where the machine has it.
 
+#[path = "bench_covariance.rs"]
+mod covariances;
+
 use oracle::cases::Random;
 use oracle::plain::platform;
 use std::hint::black_box;
@@ -64,6 +67,7 @@ entries! {
         out_len: usize) -> Answer;
     fn crewelmarsh_block_write_abi2(rows: usize, columns: usize, parts: usize, kind1: usize, numbers1: *const f64, len1: usize,
         kind2: usize, numbers2: *const f64, len2: usize, kind3: usize, numbers3: *const f64, len3: usize, out: *mut u8, out_len: usize) -> Answer;
+    fn crewelmarsh_covariance_abi2(n: usize, count: usize, samples: *const i16, samples_len: usize, matrix: *mut f64, matrix_len: usize) -> Answer;
 }
 
 unsafe extern "C" {
@@ -311,6 +315,9 @@ fn main() {
     if std::env::args().nth(1).as_deref() == Some("blocks") {
         return blocks(&mut rng);
     }
+    if std::env::args().nth(1).as_deref() == Some("covariance") {
+        return covariances::table(&mut rng);
+    }
     let about = std::fs::read_to_string("/proc/cpuinfo").unwrap_or_default();
     let model = about.lines().find(|l| l.starts_with("model name")).and_then(|l| l.split(": ").nth(1)).unwrap_or("unknown");
     println!("Machine: {} ({model}).", std::env::consts::ARCH);
@@ -375,4 +382,5 @@ fn main() {
         row("qr_q", KINDS[0], n, &times, false);
     }
     blocks(&mut rng);
+    covariances::table(&mut rng);
 }

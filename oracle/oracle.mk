@@ -104,8 +104,19 @@ $(MEASURED): oracle/native.sh $(ARCHIVE)
 	oracle/native.sh $@
 endif
 
-$(ORACLE)/bench: oracle/bench.rs $(ORACLE)/liboracle.rlib $(MEASURED)
-	$(ORACLE_RUSTC) --extern oracle=$(ORACLE)/liboracle.rlib -C link-arg=$(MEASURED) $< -o $@
+# The triple loop that the covariance is measured beside, by the machine's C compiler and by the toolchain's.
+TRIPLES := $(ORACLE)/triple_cc.o $(ORACLE)/triple_kit.o
+
+$(ORACLE)/triple_cc.o: oracle/triple.c
+	@mkdir -p $(ORACLE)
+	$(CC) -std=c99 -Wall -Wextra -O3 -fPIC -DTRIPLE=triple_cc -c $< -o $@
+
+$(ORACLE)/triple_kit.o: oracle/triple.c
+	@mkdir -p $(ORACLE)
+	$(CLANG) --target=$(shell uname -m)-unknown-linux-gnu --no-default-config -nostdinc -std=c99 -Wall -Wextra -O3 -fPIC -DTRIPLE=triple_kit -c $< -o $@
+
+$(ORACLE)/bench: oracle/bench.rs oracle/bench_covariance.rs $(ORACLE)/liboracle.rlib $(MEASURED) $(TRIPLES)
+	$(ORACLE_RUSTC) --extern oracle=$(ORACLE)/liboracle.rlib -C link-arg=$(MEASURED) $(TRIPLES:%=-C link-arg=%) $< -o $@
 
 bench: $(ORACLE)/bench
 	$(ORACLE)/bench
@@ -114,6 +125,10 @@ bench: $(ORACLE)/bench
 bench-blocks: $(ORACLE)/bench
 	$(ORACLE)/bench blocks
 
+# The covariance's rows alone.
+bench-covariance: $(ORACLE)/bench
+	$(ORACLE)/bench covariance
+
 # A copy of the root in C and the school method, held to the processor's root and measured; no archive and no rustc.
 $(ORACLE)/root: oracle/root.c
 	@mkdir -p $(ORACLE)
@@ -121,3 +136,23 @@ $(ORACLE)/root: oracle/root.c
 
 bench-root: $(ORACLE)/root
 	$(ORACLE)/root
+
+# The covariance through the archive against 128-bit integers, on planes chosen by hand and random ones; no rustc.
+COVARIANCE_CASES ?= 3000
+
+ifeq ($(shell uname -m),x86_64)
+$(ORACLE)/covariance: oracle/covariance.c $(ARCHIVE)
+	@mkdir -p $(ORACLE)
+	$(CC) -std=c99 -Wall -Wextra -O2 $^ -o $@
+RUN_COVARIANCE = $(ORACLE)/covariance
+else
+$(ORACLE)/covariance: oracle/covariance.c $(ARCHIVE)
+	@mkdir -p $(ORACLE)
+	$(KIT_TOOLS)/bin/clang --target=x86_64-unknown-linux-gnu -march=x86-64 --no-default-config -nostdinc -std=c11 -O2 -fPIC -c $< -o $@.o
+	$(KIT_OWN)/bin/rattle-link --target x86_64-unknown-linux-gnu --toolchain $(KIT_TOOLS) -o $@ $@.o $(ARCHIVE)
+RUN_COVARIANCE = $(KIT_TOOLS)/bin/qemu-x86_64 $(KIT_TOOLS)/lib/ld-linux-x86-64.so.2 --library-path $(KIT_TOOLS)/lib $(ORACLE)/covariance
+endif
+
+.PHONY: compare-covariance bench-covariance
+compare-covariance: $(ORACLE)/covariance
+	$(RUN_COVARIANCE) $(SEED) $(COVARIANCE_CASES)

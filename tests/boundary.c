@@ -27,5 +27,7 @@ int main(void)
     test_numbers();
     group("blocks");
     test_blocks();
+    group("covariance");
+    test_covariance();
     return report();
 }

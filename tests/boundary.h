@@ -90,5 +90,6 @@ void test_marks(void);
 void test_sizes(void);
 void test_numbers(void);
 void test_blocks(void);
+void test_covariance(void);
 
 #endif

@@ -36,12 +36,16 @@ SAME(solve_right_side, CREWELMARSH_SOLVE_RIGHT_SIDE_LEN(3), 3);
 SAME(solve_answer, CREWELMARSH_SOLVE_ANSWER_LEN(2), 2);
 SAME(inverse_answer, CREWELMARSH_PSEUDO_INVERSE_ANSWER_LEN(3, 2), 6);
 SAME(qr_answer, CREWELMARSH_QR_Q_ANSWER_LEN(3, 2), 6);
+SAME(covariance_samples, CREWELMARSH_COVARIANCE_SAMPLES_LEN(1 + 2, 65536), 196608);
+SAME(covariance_over, CREWELMARSH_COVARIANCE_SAMPLES_LEN(3, 65537), 0);
+SAME(covariance_bands, CREWELMARSH_COVARIANCE_SAMPLES_LEN(257, 1), 0);
+SAME(covariance_matrix, CREWELMARSH_COVARIANCE_MATRIX_LEN(3), 9);
 
 #if CREWELMARSH_VERSION_MAJOR < 2
 #error "the version is no number"
 #endif
 
-/* "2.1.0", of one digit each until one has more. */
+/* "2.2.0", of one digit each until one has more. */
 static int version_right(void)
 {
     const char *v = CREWELMARSH_VERSION;
@@ -64,16 +68,23 @@ static int constants_right(void)
            CREWELMARSH_MIN_LIMIT == 1 && CREWELMARSH_MAX_LIMIT == 60;
 }
 
+/* Those of covariance. */
+static int covariance_constants_right(void)
+{
+    return CREWELMARSH_SAMPLES == 25 && CREWELMARSH_ENTRY_OVER == 26 && CREWELMARSH_MIN_SAMPLES == 1 &&
+           CREWELMARSH_MAX_SAMPLES == 65536;
+}
+
 /* The text of each number differs from the others, and from the one that all other numbers have. */
 static int texts_differ(void)
 {
-    static const size_t numbers[] = {0, 1, 2, 3, 4, 5, 6, 7, 8, 9, 10, 20, 21, 22, 23, 24, (size_t)-1};
+    static const size_t numbers[] = {0, 1, 2, 3, 4, 5, 6, 7, 8, 9, 10, 20, 21, 22, 23, 24, 25, 26, (size_t)-1};
     size_t a, b;
     for (a = 0; a < sizeof numbers / sizeof numbers[0]; a++)
         for (b = 0; b < a; b++)
             if (strcmp(crewelmarsh_text(numbers[a]), crewelmarsh_text(numbers[b])) == 0)
                 return 0;
-    return strcmp(crewelmarsh_text(11), crewelmarsh_text((size_t)-1)) == 0 && strcmp(crewelmarsh_text(19), crewelmarsh_text(25)) == 0;
+    return strcmp(crewelmarsh_text(11), crewelmarsh_text((size_t)-1)) == 0 && strcmp(crewelmarsh_text(19), crewelmarsh_text(27)) == 0;
 }
 
 static int square_lengths_right(size_t n)
@@ -99,6 +110,12 @@ static int lengths_right(size_t m, size_t n)
            crewelmarsh_svd_result_len(m, n, 1, 1) == (taken ? r + m * r + r * n : 0) &&
            crewelmarsh_pseudo_inverse_answer_len(m, n) == (taken ? n * m : 0) &&
            crewelmarsh_qr_q_answer_len(m, n) == (taken ? m * n : 0);
+}
+
+static int covariance_lengths_right(size_t n, size_t count)
+{
+    return crewelmarsh_covariance_samples_len(n, count) == (n <= 256 && count <= 65536 ? n * count : 0) &&
+           crewelmarsh_covariance_matrix_len(n) == (n <= 256 ? n * n : 0);
 }
 
 static int is_part(struct crewelmarsh_part part, const double *start, size_t length)
@@ -182,6 +199,11 @@ void TEST_HEADER(void (*check)(int good, const char *what))
         for (j = 0; j < DIMENSIONS; j++)
             check(lengths_right(dimensions[i], dimensions[j]), "lengths by m and n");
     }
+    check(covariance_constants_right(), "constants of covariance");
+    for (i = 0; i < DIMENSIONS; i++)
+        for (j = 0; j < DIMENSIONS; j++)
+            check(covariance_lengths_right(dimensions[i], dimensions[j]), "lengths of covariance");
+    check(is_answer(crewelmarsh_covariance(0, 1, NULL, 0, NULL, 0), 0, 0, 0), "covariance of no band");
     check(rows_right(), "rows of V^T");
     check(empty_rows_right(), "empty rows of V^T");
     check(entries_link(), "entries");

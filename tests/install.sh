@@ -109,6 +109,7 @@ call block_find '(NULL, 0, NULL, 0, 1)' block
 call block_copy '(NULL, 0, NULL, 0, 1, NULL, 0)' answer
 call block_length '(257, 0, 0, 0, 0, 0)'
 call block_write '(0, 0, 0, 0, NULL, 0, 0, NULL, 0, 0, NULL, 0, NULL, 0)' place
+call covariance '(0, 1, NULL, 0, NULL, 0)' answer
 
 warn='-Wall -Wextra -Wpedantic -Werror'
 a=$scratch/prefix/lib/libcrewelmarsh.a

@@ -227,3 +227,50 @@ pub unsafe extern "C" fn crewelmarsh_block_write_abi2(
     let out = if out_len == 0 { &mut [] } else { unsafe { slice::from_raw_parts_mut(out, out_len) } };
     refused(block::write(rows, columns, parts, &given, out))
 }
+
+// ---------------------------------------------------------------- covariance
+
+/// By its definition, in 128 bits, every entry by itself: no document of Rust has it.
+fn covariance(n: usize, count: usize, samples: &[i16], matrix: &mut [f64]) -> Answer {
+    let refused = |answer, place| Answer { answer, place, index: 0, count: 0 };
+    if n > 256 {
+        return refused(1, 0);
+    }
+    if !(1..=65536).contains(&count) {
+        return refused(25, 0);
+    }
+    if samples.len() != n * count {
+        return refused(6, 0);
+    }
+    if matrix.len() != n * n {
+        return refused(6, 1);
+    }
+    let band = |x: usize| samples[x * count..(x + 1) * count].iter().map(|&s| s as i128);
+    let sums: Vec<i128> = (0..n).map(|x| band(x).sum()).collect();
+    for place in 0..n * n {
+        let (x, y) = (place / n, place % n);
+        let products: i128 = band(x).zip(band(y)).map(|(a, b)| a * b).sum();
+        let entry = count as i128 * products - sums[x] * sums[y];
+        if entry.abs() > 1 << 53 {
+            matrix.fill(0.0);
+            return refused(26, place);
+        }
+        matrix[place] = entry as f64;
+    }
+    refused(0, 0)
+}
+
+#[unsafe(no_mangle)]
+pub unsafe extern "C" fn crewelmarsh_covariance_abi2(
+    n: usize,
+    count: usize,
+    samples: *const i16,
+    samples_len: usize,
+    matrix: *mut f64,
+    matrix_len: usize,
+) -> Answer {
+    unsafe {
+        let samples = if samples_len == 0 { &[] } else { slice::from_raw_parts(samples, samples_len) };
+        covariance(n, count, samples, lent_mut(matrix, matrix_len))
+    }
+}

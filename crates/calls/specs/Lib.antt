@@ -3,3 +3,4 @@ pub mod Eigen
 pub mod Svd
 pub mod Answers
 pub mod Together
+pub mod Covariance

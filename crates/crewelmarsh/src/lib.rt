@@ -10,6 +10,7 @@ ghost use Rattle.qr.specs.Qr.{qrQ};
 ghost use Rattle.blockread.specs.Held.{shapeOf};
 ghost use Rattle.blockread.specs.Lookup.{found, copied};
 ghost use Rattle.blockwrite.specs.Writing.{given, doubles, lengthOf, written};
+ghost use Rattle.covariance.specs.Covariance.{covariance};
 use answers::Answer;
 use blockread::Found;
 use blockread::Shape;
@@ -179,4 +180,16 @@ pub extern "C" fn crewelmarsh_block_write_abi2(
         numbers3,
         out,
     )
+}
+
+#[no_mangle]
+pub extern "C" fn crewelmarsh_covariance_abi2(
+    n: usize,
+    count: usize,
+    samples: &[i16],
+    matrix: &mut [f64],
+) -> Answer
+    ensures { λ r. ⌜ (r, now (matrix .exit)) ≡ covariance n count (now (samples .entry)) (now (matrix .entry)) ⌝ }
+{
+    covariance::covariance(n, count, samples, matrix)
 }

@@ -1,0 +1,2 @@
+-- The steps of the loop over the entries.
+pub mod Steps

@@ -1,0 +1,59 @@
+-- Generated from the answers file beside it by tools/prove/prove.py: edit that.
+-- `covariance::checks` meets its contract.
+use mathlib.Core.Path.{_∙_}
+use native.Mathlib.Omega.{arith}
+use borrow.Author.Needs.{needs}
+use borrow.Author.Tests.{lt-ltb, le-ltb}
+use Rattle.covariance.specs.Covariance.{covChecks}
+use Rattle.covariance.proofs.Steps.{room}
+use Rattle.covariance.proofs.checks.Statement.{statement}
+use Rattle.covariance.proofs.checks.Tie as tie
+
+refused-requires : tie.Need-refused-requires
+refused-requires c κs = search needs
+
+returns : tie.Need-returns
+unfolding covChecks
+returns c = c .refused .ensures ∙ rw (lt-ltb 256 _ (c .before .if1 .taken))
+
+refused-requires-2 : tie.Need-refused-requires-2
+refused-requires-2 c κs = search needs
+
+returns-2 : tie.Need-returns-2
+unfolding covChecks
+returns-2 c = c .refused2 .ensures ∙ rw (le-ltb 256 _ (c .before .before .if1 .left), lt-ltb _ 1 (c .before .if2 .taken))
+
+refused-requires-3 : tie.Need-refused-requires-3
+refused-requires-3 c κs = search needs
+
+returns-3 : tie.Need-returns-3
+unfolding covChecks
+returns-3 c = c .refused3 .ensures ∙ rw (le-ltb 256 _ (c .before .before .before .if1 .left), le-ltb _ 1 (c .before .before .if2 .left), lt-ltb 65536 _ (c .before .if3 .taken))
+
+mul-lengths : tie.Need-mul-lengths
+mul-lengths c = omega (arith, room (c .before .before .before .args .n) (c .before .before .before .args .count) (omega arith) (omega arith))
+
+mul-lengths-2 : tie.Need-mul-lengths-2
+mul-lengths-2 c = omega (arith, room (c .before .before .before .args .n) (c .before .before .before .args .n) (omega arith) (omega arith))
+
+lengths-requires : tie.Need-lengths-requires
+lengths-requires c κs = search needs
+
+returns-4 : tie.Need-returns-4
+unfolding covChecks
+returns-4 c = c .lengths .ensures ∙ rw (le-ltb 256 _ (c .before .before .before .if1 .left), le-ltb _ 1 (c .before .before .if2 .left), le-ltb 65536 _ (c .before .if3 .left))
+
+pub checks-spec : {M : Type 1} → statement M
+checks-spec =
+    tie.close
+    (tie.spec
+    refused-requires
+    returns
+    refused-requires-2
+    returns-2
+    refused-requires-3
+    returns-3
+    mul-lengths
+    mul-lengths-2
+    lengths-requires
+    returns-4)
