@@ -47,13 +47,15 @@
  *     0        result or answer full, work all +0.0
  *     1 to 6   all untouched
  *     7 to 10  result or answer, and work, all +0.0
+ *     11       all untouched
  *
  * Matrix, decomposition and right side are only read.
  *
  * 20 to 24 come from blocks alone, and leave all untouched.
  *
- * The tests run in the order of the numbers, so a 6 says that sizes, limit and flags were good, and a 7
- * that the lengths were good too. 8, 9 and 10 come as the run meets them.
+ * The tests run in the order of the numbers, but that for 11 comes behind 5 and before 6. So a 6 says that sizes,
+ * limit, flags and tolerance were good, and a 7 that the lengths were good too. 8, 9 and 10 come as the run meets
+ * them.
  *
  * MARKS
  *
@@ -99,7 +101,7 @@
  * patch.
  */
 #define CREWELMARSH_VERSION_MAJOR 2
-#define CREWELMARSH_VERSION_MINOR 2
+#define CREWELMARSH_VERSION_MINOR 3
 #define CREWELMARSH_VERSION_PATCH 0
 #define CREWELMARSH_VERSION /* as a string */ \
     CREWELMARSH_DOTTED(CREWELMARSH_VERSION_MAJOR, CREWELMARSH_VERSION_MINOR, CREWELMARSH_VERSION_PATCH)
@@ -206,9 +208,13 @@ enum {
        An operation had no value: infinity - infinity, 0 * infinity, infinity / infinity or 0 / 0. The input is
        finite, so that mostly a number overflowed further back, between two marks: scale down as for 8. Where the
        largest number is near 1 already, tiny ones stand beside it (in symmetric_eigen 2^-1074 beside 1): set to 0
-       what is that far below the largest. In solve and pseudo_inverse raise the tolerance as for 8, and don't
-       pass a negative one, which has values of 0 divided by. */
+       what is that far below the largest. In solve and pseudo_inverse raise the tolerance as for 8. */
     CREWELMARSH_INVALID = 10,
+
+    /* The tolerance is a NaN or below 0; -0.0 is taken as 0 (solve, pseudo_inverse). Place 0.
+       Pass 0 to have every value above 0 count, or a small part of the largest value, decomposition[0]: see solve.
+       A NaN is mostly a 0 / 0 in what the caller computed, as where the largest value is 0. */
+    CREWELMARSH_TOLERANCE = 11,
 
     /* A block is cut short: fewer than 12 bytes, or than its entries need, or than its numbers need. Place 0, as
        for 21 to 24.
@@ -262,6 +268,7 @@ static inline const char *crewelmarsh_text(size_t answer)
     case CREWELMARSH_OVERFLOW: return "a number computed is infinite";
     case CREWELMARSH_LIMIT_USED: return "the limit is used up";
     case CREWELMARSH_INVALID: return "a number computed is not a number";
+    case CREWELMARSH_TOLERANCE: return "the tolerance is a NaN or below 0";
     case CREWELMARSH_BLOCK_SHORT: return "the block is cut short";
     case CREWELMARSH_BLOCK_OVER: return "bytes stand behind the block";
     case CREWELMARSH_BLOCK_COUNT: return "a dimension, a number of parts or a count of the block is bad";
@@ -507,16 +514,15 @@ static inline struct crewelmarsh_part crewelmarsh_vt_row(
  * m, n       the dimensions of A, as passed to svd
  * has_u      the flags passed to svd; both must be yes
  * has_vt
- * tolerance  a singular value counts only where it is above the tolerance. max(m, n) * 2^-52 times the
- *            largest value is usual; 0 takes all that are not 0. Any double is taken: with a NaN or
- *            +infinity no value counts and the answer is all zeros, and with a negative one values
- *            of 0 are divided by, which ends in 8 or 10
+ * tolerance  0 or above. A singular value counts only where it is above the tolerance. max(m, n) * 2^-52 times
+ *            the largest value, decomposition[0], is usual; 0 or -0.0 takes all that are not 0; with +infinity
+ *            none counts and the answer is all zeros
  * decomposition   the result of svd: r + m * r + r * n, only read
  * right_side m, only read
  * answer     n. On 0: x
  *
  * Answers, count always 0:
- *   0, 1, 3, 4, 5
+ *   0, 1, 3, 4, 5, 11
  *   6  place 0 decomposition, 1 answer
  *   7  place: index in the decomposition, or decomposition_len + index in the right side
  *   8, 10  place 2; index: in the answer as it was about to be given
@@ -538,7 +544,7 @@ struct crewelmarsh_answer crewelmarsh_solve(
  * answer     n * m. On 0: the pseudo-inverse
  *
  * Answers, count always 0:
- *   0, 1, 3, 4
+ *   0, 1, 3, 4, 11
  *   6  place 0 decomposition, 1 answer
  *   7  place: index in the decomposition
  *   8, 10  place 2; index: in the answer as it was about to be given, so row index / m, column index % m

@@ -57,6 +57,13 @@ refusal over the upper triangle	s/for j in 0..=i {$/for j in 0..n {/;/fn tred2/,
 only the first n cleared	/fn symmetric_eigen/,/^}/s/result.fill(0.0)/result[..n].fill(0.0)/
 work not cleared	/fn svd/,/^}/s/    work.fill(0.0);//
 tolerance by >=	s/values\[k\] > tolerance/values[k] >= tolerance/
+NaN tolerance taken	s/tolerance.is_nan() || tolerance < 0.0/tolerance < 0.0/
+negative tolerance taken	s/tolerance.is_nan() || tolerance < 0.0/tolerance.is_nan()/
+tolerance -0.0 refused	s/|| tolerance < 0.0/|| tolerance.is_sign_negative()/
+tolerance before the right side	s/if right_side.len() != m {/if right_side.len() != m \&\& !bad_tolerance(tolerance) {/
+tolerance after the lengths	s/if bad_tolerance(tolerance) {/if bad_tolerance(tolerance) \&\& decomposition.len() == decomposition_length(m, n, has_u, has_vt) {/
+answer cleared on 11	s/return told(11, 0, 0);/answer.fill(0.0); return told(11, 0, 0);/
+tolerance not looked at in pseudo_inverse	/fn pseudo_inverse/,/^}/s/if bad_tolerance(tolerance) {/if false {/
 equal values backwards	s/partial_cmp(&s\[i\]).unwrap()/partial_cmp(\&s[i]).unwrap().then(j.cmp(\&i))/
 every matrix refused	s/let mut v = matrix.to_vec();/if n > 3 { return told(8, 0, 0); } let mut v = matrix.to_vec();/
 limit tested before convergence	s/if e\[l\].abs() <= eps \* tst1 {/if passes < limit \&\& e[l].abs() <= eps * tst1 {/

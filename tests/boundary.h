@@ -53,7 +53,7 @@ struct call qr_q_call(size_t m, size_t k, const double *matrix);
 /*
  * Runs a call on arrays between guard words, twice, with other old contents the second time; an array
  * of length 0 is NULL the first time. Checks the four numbers (the index is 0), the guards, that what is only read is
- * unchanged byte for byte, and of the other arrays what the answer promises: 1 to 6 unchanged, 7 to 10
+ * unchanged byte for byte, and of the other arrays what the answer promises: 1 to 6 and 11 unchanged, 7 to 10
  * +0.0 throughout, 0 work +0.0 and every number of the result finite, the same both times, and with the
  * bits of `out` where that is not NULL.
  */

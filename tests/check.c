@@ -156,7 +156,7 @@ static int left_as_promised(const struct call *c, size_t answer)
 {
     if (answer == 0)
         return zeroed(WORK, c->work_len) && all_finite(OUT, c->out_len);
-    if (answer <= 6)
+    if (answer <= 6 || answer == 11)
         return kept(WORK, c->work_len) && kept(OUT, c->out_len);
     return zeroed(WORK, c->work_len) && zeroed(OUT, c->out_len);
 }

@@ -30,7 +30,7 @@ static void found(const char *what, struct call c, size_t answer, size_t place, 
     expect_at(what, c, answer, place, index, count);
 }
 
-/* ---- solve and pseudo_inverse: the arrays are the answers, by the definition's sums. All values count. */
+/* ---- solve and pseudo_inverse: the arrays are the answers, by the definition's sums. All values are above the tolerance, 0. */
 
 static void solved(const double *given, const double *right, size_t m, size_t n, double *x)
 {
@@ -67,19 +67,15 @@ static void solve_one(const char *what, size_t m, size_t n, const double *given,
                       size_t index)
 {
     double x[MOST];
-    struct call c = solve_call(m, n, given, right);
-    c.tolerance = -1;
     solved(given, right, m, n, x);
-    found(what, c, answer, 2, index, 0, x);
+    found(what, solve_call(m, n, given, right), answer, 2, index, 0, x);
 }
 
 static void inverse_one(const char *what, size_t m, size_t n, const double *given, size_t answer, size_t index)
 {
     double inverse[MOST];
-    struct call c = pseudo_inverse_call(m, n, given);
-    c.tolerance = -1;
     inverted(given, m, n, inverse);
-    found(what, c, answer, 2, index, 0, inverse);
+    found(what, pseudo_inverse_call(m, n, given), answer, 2, index, 0, inverse);
 }
 
 /* A row: the value 1, U 1 by 1, V^T as long as the answer. */
@@ -101,9 +97,9 @@ static void solve_marks(void)
     row[2] = 0;
     row[4] = 1;
     solve_one("0 * infinity, then infinity", 1, 3, row, one, 10, 0);
-    row[0] = 0;
-    one[0] = 0;
-    solve_one("0 / 0", 1, 3, row, one, 10, 0);
+    row[0] = power_of_two(-1074);
+    row[1] = one[0] = 1;
+    solve_one("0 * (1 / 2^-1074)", 1, 3, row, one, 10, 0);
     both[2] = both[5] = largest();
     both[7] = -huge();
     both[9] = huge();
@@ -115,7 +111,7 @@ static void inverse_marks(void)
 {
     double given[12] = {1, 1, 0, 0, 0, 0, 0, 0, 2, 0, 0, 2};
     double mixed[10] = {2, 1, -1, 0, 0, 0, 0, 0, 0, 2}, differ[10] = {1, 1, 1, 1, 0, 0, 0, -1, 0, 0};
-    double zero[12] = {1, 0, 1, 0, 0, 1, 0, 0, 1, 0, 0, 1};
+    double tiny[12] = {1, 0, 1, 0, 0, 1, 0, 0, 1, 0, 0, 1};
     size_t i, j;
     for (j = 0; j < 2; j++)
         for (i = 0; i < 3; i++) {
@@ -131,7 +127,8 @@ static void inverse_marks(void)
     differ[4] = differ[5] = differ[8] = largest();
     differ[6] = -largest();
     inverse_one("infinity - infinity", 2, 2, differ, 10, 1);
-    inverse_one("0 * infinity", 3, 2, zero, 10, 0);
+    tiny[1] = power_of_two(-1074);
+    inverse_one("0 * infinity", 3, 2, tiny, 10, 0);
 }
 
 /* ---- qr_q: the array has the squared length of each column. The columns before the bad one are of length 1 or 2,

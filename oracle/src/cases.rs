@@ -373,9 +373,14 @@ fn damaged(rng: &mut Random, len: usize) -> usize {
 }
 
 fn tolerance(rng: &mut Random, values: &[f64]) -> f64 {
+    if rng.one_in(8) {
+        let nans = [f64::NAN, -f64::NAN, f64::from_bits(0x7ff0_0000_0000_0001), f64::from_bits(u64::MAX)];
+        let negative = [-two(-1074), -1.0, -f64::MAX, f64::NEG_INFINITY];
+        return if rng.one_in(2) { rng.of(&nans) } else { rng.of(&negative) };
+    }
     let one = if values.is_empty() { 1.0 } else { rng.of(values) };
     let edges = [
-        0.0, 0.0, 0.0, -0.0, f64::NAN, f64::INFINITY, f64::NEG_INFINITY, -1.0, two(-1074), 1e-12, 0.5, one, one, one,
+        0.0, 0.0, 0.0, -0.0, f64::INFINITY, two(-1074), 1e-12, 0.5, one, one, one,
         f64::from_bits(one.to_bits().wrapping_add(1)), f64::from_bits(one.to_bits().wrapping_sub(1)),
     ];
     rng.of(&edges)

@@ -60,7 +60,7 @@ fn fresh(out: &mut impl Write, seed: u64, cases: usize, largest: u64) -> io::Res
 /// Where the patched functions answer 0, document 000 with 01's hypot gives the same bits. Also says how many answers
 /// of each number there were, and in how many cases the platform's hypot gives other bits.
 fn check(seed: u64, cases: usize, largest: u64) -> bool {
-    let mut answers = [[0usize; 11]; 7];
+    let mut answers = [[0usize; 12]; 7];
     let mut marks = [[[0usize; 3]; 2]; 7];
     let mut compared = [0usize; 7];
     let mut wrong = 0;
@@ -85,7 +85,7 @@ fn check(seed: u64, cases: usize, largest: u64) -> bool {
         let at = done.answer.index == 0 || matches!(done.answer.answer, 8 | 10);
         let fits = at && match done.answer.answer {
             0 => plus_zero(&done.work) && done.result.iter().all(|x| x.is_finite()),
-            1..=6 => same(&work, &done.work) && same(&result, &done.result),
+            1..=6 | 11 => same(&work, &done.work) && same(&result, &done.result),
             _ => plus_zero(&done.work) && plus_zero(&done.result),
         };
         if !fits {
@@ -114,7 +114,7 @@ fn check(seed: u64, cases: usize, largest: u64) -> bool {
         }
     }
     for f in 1..6 {
-        println!("{}: {} compared with document 000; cases by answer 0 to 10: {:?}, 8 by place 0 to 2: {:?}, 10: {:?}", NAMES[f], compared[f], answers[f], marks[f][0], marks[f][1]);
+        println!("{}: {} compared with document 000; cases by answer 0 to 11: {:?}, 8 by place 0 to 2: {:?}, 10: {:?}", NAMES[f], compared[f], answers[f], marks[f][0], marks[f][1]);
     }
     println!("{} of the eigen cases up to n = 12 have other bits under the platform's hypot", other_hypot);
     println!("{} cases, {} wrong", all.len(), wrong);

@@ -459,6 +459,11 @@ pub fn vt_row_at(m: usize, n: usize, has_u: usize, has_vt: usize, j: usize, len:
 
 // ---------------------------------------------------------------- solve, pseudo_inverse
 
+/// A tolerance that is refused with 11: a NaN, or one below 0, which -0.0 is not.
+fn bad_tolerance(tolerance: f64) -> bool {
+    tolerance.is_nan() || tolerance < 0.0
+}
+
 pub fn solve(
     m: usize,
     n: usize,
@@ -480,6 +485,9 @@ pub fn solve(
     }
     if right_side.len() != m {
         return told(5, 0, 0);
+    }
+    if bad_tolerance(tolerance) {
+        return told(11, 0, 0);
     }
     let wanted = [(decomposition.len(), decomposition_length(m, n, has_u, has_vt)), (answer.len(), n)];
     if let Some(place) = first_wrong(&wanted) {
@@ -532,6 +540,9 @@ pub fn pseudo_inverse(
     }
     if has_vt == 0 {
         return told(4, 0, 0);
+    }
+    if bad_tolerance(tolerance) {
+        return told(11, 0, 0);
     }
     let wanted = [(decomposition.len(), decomposition_length(m, n, has_u, has_vt)), (answer.len(), n * m)];
     if let Some(place) = first_wrong(&wanted) {

@@ -58,7 +58,10 @@ pub fn worked() -> Vec<Case> {
         svd(2, 2, 59, &[1.0, two(-520), 0.0, 0.0]),
         pseudo_inverse(2, 2, 0.0, &SWAPPED),
         pseudo_inverse(2, 2, 2.0, &SWAPPED),
+        pseudo_inverse(2, 2, NAN, &SWAPPED),
         solve(2, 2, 0.0, &SWAPPED, &[2.0, 4.0]),
+        solve(2, 2, -0.0, &SWAPPED, &[4.0, 4.0]),
+        solve(2, 2, NAN, &SWAPPED, &[4.0, 4.0]),
         solve(0, 2, 0.0, &[], &[]),
         qr_q(1, 1, &[two(-52)]),
         qr_q(1, 1, &[two(-51)]),
@@ -139,7 +142,7 @@ pub fn findings() -> Vec<Case> {
 /// than one are bad, some have the other class behind the first.
 pub fn marks() -> Vec<Case> {
     let (max, big, half, quarter) = (f64::MAX, two(1023), two(1022), two(1021));
-    let (small, large) = (two(-512), two(600));
+    let (tiny, small, large) = (two(-1074), two(-512), two(600));
     vec![
         // symmetric_eigen, mark 0: 8 in d, first or not, and 10, at the last with an infinity behind it.
         eigen(3, 60, &[big, 0.0, 0.0, 0.0, -big, 0.0, -1.0, 0.0, -1.0]),
@@ -181,8 +184,8 @@ pub fn marks() -> Vec<Case> {
         solve(1, 1, 0.0, &[1.0, big, 0.0], &[-big]),
         solve(1, 2, 0.0, &[1.0, big, 0.0, -1.0], &[-big]),
         solve(2, 2, 0.0, &[1.0, 1.0, max, 0.0, 2.0, max, -1.0, -big, 1.0, big], &[-1.0, -1.0]),
-        solve(1, 1, -1.0, &[0.0, 1.0, 1.0], &[0.0]),
-        solve(1, 1, -1.0, &[0.0, 1.0, 1.0], &[1.0]),
+        solve(1, 1, 0.0, &[tiny, 1.0, 0.0], &[1.0]),
+        solve(1, 1, 0.0, &[tiny, 1.0, 1.0], &[1.0]),
         // pseudo_inverse: likewise; where another order of the cells would count otherwise.
         pseudo_inverse(1, 1, 0.0, &[1.0, -big, 2.0]),
         pseudo_inverse(2, 1, 0.0, &[small, -large, 0.0, two(512)]),
@@ -192,7 +195,7 @@ pub fn marks() -> Vec<Case> {
         pseudo_inverse(2, 1, 0.0, &[small, 0.0, large, half]),
         pseudo_inverse(2, 2, 0.0, &[1.0, 1.0, 1.0, 1.0, max, max, -max, -1.0, max, 0.0]),
         pseudo_inverse(2, 2, 0.0, &[1.0, 1.0, 0.0, -1.0, -big, big, big, max, big, 0.0]),
-        pseudo_inverse(3, 2, -1.0, &[1.0, 0.0, 1.0, 0.0, 0.0, 1.0, 0.0, 0.0, 1.0, 0.0, 0.0, 1.0]),
+        pseudo_inverse(3, 2, 0.0, &[1.0, tiny, 1.0, 0.0, 0.0, 1.0, 0.0, 0.0, 1.0, 0.0, 0.0, 1.0]),
         // qr_q: the norm of each column.
         qr_q(1, 2, &[0.0, -big]),
         qr_q(1, 3, &[0.0, 0.0, half]),
@@ -224,6 +227,8 @@ pub fn refusals() -> Vec<Case> {
         [|c| c.parameters[4] = 0, |c| c.parameters[4] = 61, |c| c.parameters[4] = u64::MAX];
     let no_u: Damage = |c| c.parameters[2] = 0;
     let no_vt: Damage = |c| c.parameters[3] = 0;
+    let tolerance_nan: Damage = |c| c.parameters[4] = f64::NAN.to_bits();
+    let tolerance_below: Damage = |c| c.parameters[4] = (-two(-1074)).to_bits();
     let right: Damage = |c| c.b.push(1.0);
     let right_none: Damage = |c| c.b.clear();
     let right_number: Damage = |c| c.b[1] = f64::NEG_INFINITY;
@@ -251,7 +256,7 @@ pub fn refusals() -> Vec<Case> {
     all.extend(svd_limit);
     pairs(&rectangle, &all);
     let done = rectangle.outcome().result;
-    let shared = [far, far_second, no_u, no_vt, matrix, matrix_short, result, result_none, number, number_first];
+    let shared = [far, far_second, no_u, no_vt, tolerance_nan, tolerance_below, matrix, matrix_short, result, result_none, number, number_first];
     pairs(&pseudo_inverse(2, 3, 0.0, &done), &shared);
     let mut all = shared.to_vec();
     all.extend([right, right_none, right_number]);
@@ -284,7 +289,9 @@ pub fn refusals() -> Vec<Case> {
         out.push(solve(2, 3, 0.0, &done, &[x, 2.0]));
         out.push(solve(2, 3, 0.0, &done, &[2.0, x]));
     }
-    for tolerance in [0.0, -0.0, NAN, -NAN, INF, -INF, -1.0, 4.0, 2.0, 3.0, two(-1074), f64::MAX] {
+    let tiny = two(-1074);
+    let other_nan = f64::from_bits(0x7ff0_0000_0000_0001);
+    for tolerance in [0.0, -0.0, NAN, -NAN, other_nan, INF, -INF, -1.0, -tiny, -f64::MAX, 4.0, 2.0, 3.0, tiny, f64::MAX] {
         out.push(solve(2, 2, tolerance, &SWAPPED, &[2.0, 4.0]));
         out.push(pseudo_inverse(2, 2, tolerance, &SWAPPED));
         let zero = [4.0, 0.0, 0.0, 1.0, 1.0, 0.0, 0.0, 1.0, 1.0, 0.0];

@@ -42,7 +42,7 @@ refusal7-most Nowhere = omega arith
 
 -- ---- what the index says after them
 
-no-mark : (x : Answer) → x .answer ≤ 7 → AtMark x → ⊥
+pub no-mark : (x : Answer) → x .answer ≤ 7 → AtMark x → ⊥
 no-mark x h = ⊎-elim (λ e. omega arith) (λ e. omega arith)
 
 module _ (Points : Answer → Type 0) where
@@ -59,9 +59,12 @@ module _ (Points : Answer → Type 0) where
   unless-indexed (At k c) x o i = below _ (omega arith) refl
   unless-indexed Nowhere x o i = i
 
-  pub by-check : {S : Type 0} (answer : S → Answer) (c : Answer) (o r : S) → answer r ≡ c → c .answer ≤ 7 → c .index ≡ 0 → Indexed Points (answer o) → Indexed Points (answer (cond (passed c) o r))
-  by-check answer c o r e h z i = go (passed c)
+  pub by-unmarked : {S : Type 0} (answer : S → Answer) (c : Answer) (o r : S) → answer r ≡ c → (AtMark c → ⊥) → c .index ≡ 0 → Indexed Points (answer o) → Indexed Points (answer (cond (passed c) o r))
+  by-unmarked answer c o r e d z i = go (passed c)
     where
       go : (b : Bool) → Indexed Points (answer (cond b o r))
       go true = i
-      go false = rw e (below c h z)
+      go false = rw e (none c d z)
+
+  pub by-check : {S : Type 0} (answer : S → Answer) (c : Answer) (o r : S) → answer r ≡ c → c .answer ≤ 7 → c .index ≡ 0 → Indexed Points (answer o) → Indexed Points (answer (cond (passed c) o r))
+  by-check answer c o r e h z i = by-unmarked answer c o r e (no-mark c h) z i

@@ -5,3 +5,4 @@ pub mod Early
 pub mod OutcomeLaws
 pub mod Index
 pub mod IndexLaws
+pub mod ToleranceLaws

@@ -1,5 +1,5 @@
 -- What checks say where they pass and where they refuse, of one call and of two that differ in old contents or in the limit. Laws only.
-use mathlib.Core.Path.{_≡_, refl, sym, ap, _∙_}
+use mathlib.Core.Path.{_≡_, refl, sym, ap, subst}
 use mathlib.Core.Bool.{Bool, true, false, cond, _&&_, true≢false}
 use Prim.Native.Nat.{ℕ, _≤_}
 use native.Mathlib.Omega.{arith}
@@ -76,19 +76,24 @@ unless-few false k p y h q = h
 
 -- ---- old contents: o and p come after the check c; r and s leave the arrays as they were
 
+-- K is a refusal that does
+pub old-kept : (S : Type 0) (K : Answer → Type 0) (answer : S → Answer) (c : Answer) (o p r s : S) → (passed c ≡ false → K c) → (passed c ≡ true → o ≡ p) → answer r ≡ c
+    → (K (answer (cond (passed c) o r)) → ⊥) → cond (passed c) o r ≡ cond (passed c) p s
+old-kept S K answer c o p r s kept same e h = go (passed c) refl h
+  where
+    go : (b : Bool) → passed c ≡ b → (K (answer (cond b o r)) → ⊥) → cond b o r ≡ cond b p s
+    go true t h = same t
+    go false t h = absurd (h (subst K (sym e) (kept t)))
+
+pub few-early : (c : Answer) → c .answer ≤ 6 → passed c ≡ false → Early c
+few-early c h t = record { some = above (eqb-false (c .answer) 0 t); few = h }
+  where
+    above : (c .answer ≡ 0 → ⊥) → 1 ≤ c .answer
+    above d = omega arith
+
 pub old : (S : Type 0) (answer : S → Answer) (c : Answer) (o p r s : S) → c .answer ≤ 6 → (passed c ≡ true → o ≡ p) → answer r ≡ c → answer s ≡ c
     → (Early (answer (cond (passed c) o r)) → ⊥) → cond (passed c) o r ≡ cond (passed c) p s
-old S answer c o p r s few same e f h = go (passed c) refl h
-  where
-    go : (b : Bool) → passed c ≡ b → (Early (answer (cond b o r)) → ⊥) → cond b o r ≡ cond b p s
-    go true t h = same t
-    go false t h = absurd (h (record { some = above (eqb-false (c .answer) 0 t) (ap (λ (x : Answer). x .answer) e); few = under (ap (λ (x : Answer). x .answer) e) }))
-      where
-        above : (c .answer ≡ 0 → ⊥) → answer r .answer ≡ c .answer → 1 ≤ answer r .answer
-        above d q = omega arith
-
-        under : answer r .answer ≡ c .answer → answer r .answer ≤ 6
-        under q = omega arith
+old S answer c o p r s few same e f h = old-kept S Early answer c o p r s (few-early c few) same e h
 
 -- refusal 7 and what comes after it
 pub same-bad : (b : Bad) (x y : Vec) (o p : Answer × Vec) → length x ≡ length y → o ≡ p → unlessBad b x o ≡ unlessBad b y p

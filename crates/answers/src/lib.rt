@@ -1,7 +1,7 @@
 // What a call comes back with, and the checks that several calls share.
 ghost use mathlib.Core.Path.{_≡_};
 ghost use Prim.Native.Nat.{_≤_};
-ghost use Rattle.answers.specs.Answers.{answered, done, refused, emptied, limitGood, lengths, refusal7, marked, least, present, decompositionLength};
+ghost use Rattle.answers.specs.Answers.{answered, done, refused, emptied, limitGood, toleranceGood, lengths, fitting, refusal7, marked, least, present, decompositionLength};
 use grid::fill;
 use leaves::Bad;
 
@@ -78,6 +78,13 @@ pub fn limit_good(limit: usize) -> bool
     limit <= 60
 }
 
+// A tolerance is 0 or above. -0.0 equals 0; a NaN does not, and is not above it.
+fn tolerance_good(tolerance: f64) -> bool
+    ensures { λ r. ⌜ r ≡ toleranceGood tolerance ⌝ }
+{
+    tolerance >= 0.0
+}
+
 // Refusal 6 with the first array whose length is not the one wanted, or the pass.
 pub fn lengths(a: usize, want_a: usize, b: usize, want_b: usize, c: usize, want_c: usize) -> Answer
     ensures { λ r. ⌜ r ≡ lengths a «want_a» b «want_b» c «want_c» ⌝ }
@@ -92,6 +99,16 @@ pub fn lengths(a: usize, want_a: usize, b: usize, want_b: usize, c: usize, want_
         return refused(6, 2);
     }
     done(0)
+}
+
+// Refusal 11, or 6 as in `lengths`, or the pass: of a call with a tolerance and two arrays.
+pub fn fitting(tolerance: f64, a: usize, want_a: usize, b: usize, want_b: usize) -> Answer
+    ensures { λ r. ⌜ r ≡ fitting tolerance a «want_a» b «want_b» ⌝ }
+{
+    if !tolerance_good(tolerance) {
+        return refused(11, 0);
+    }
+    lengths(a, want_a, b, want_b, 0, 0)
 }
 
 // r, the smaller of m and n.

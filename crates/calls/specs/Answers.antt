@@ -1,14 +1,18 @@
 -- Calls of `solve`, `pseudo_inverse` and `qr_q` that meet their promises: o and p are what they came back with. Laws only.
 use mathlib.Core.Path.{_≡_, sym, ap, _∙_, subst}
+use mathlib.Core.Bool.{true}
 use Prim.Native.Nat.{ℕ}
-use lib.Ieee.{Float}
+use lib.Ieee.{Float, neg}
 use lib.ListN.{length}
-use Rattle.grid.specs.Real.{Vec}
+use Rattle.grid.specs.Real.{Vec, zero64}
 use Rattle.leaves.specs.Finite.{Finite}
-use Rattle.answers.specs.Early.{Early}
+use Rattle.answers.specs.Answers.{toleranceGood}
+use Rattle.answers.specs.Early.{Early, EarlyOr11}
 use Rattle.answers.specs.Index.{AtMark}
 use Rattle.answers.specs.declared.Answer.{Answer}
 use Rattle.solve.specs.Solve.{solution, inverted, solve, pseudoInverse}
+use Rattle.solve.specs.Before.{solveBefore, pseudoInverseBefore}
+use Rattle.solve.specs.Tolerance.{solve-tolerance-zero, pseudo-inverse-tolerance-zero, solve-as-before, pseudo-inverse-as-before}
 use Rattle.solve.specs.Index as Solve
 use Rattle.solve.specs.IndexLaws.{solve-index-points, solve-index-zero, pseudo-inverse-index-points, pseudo-inverse-index-zero}
 use Rattle.solve.specs.Out.{solve-finite-out, pseudo-inverse-finite-out}
@@ -23,8 +27,8 @@ use Rattle.qr.specs.Old.{qr-q-old-contents}
 given : (e o : Answer × Vec) → o ≡ e → (e .0 .answer ≡ 0 → Finite (e .1)) → o .0 .answer ≡ 0 → Finite (o .1)
 given e o p h z = subst (λ (x : Answer × Vec). Finite (x .1)) (sym p) (h (ap (λ (x : Answer × Vec). x .0 .answer) (sym p) ∙ z))
 
-alike : (e f o p : Answer × Vec) → o ≡ e → p ≡ f → ((Early (e .0) → ⊥) → e ≡ f) → (Early (o .0) → ⊥) → o ≡ p
-alike e f o p a b h g = a ∙ h (λ s. g (subst (λ (x : Answer × Vec). Early (x .0)) (sym a) s)) ∙ sym b
+alike : (K : Answer → Type 0) (e f o p : Answer × Vec) → o ≡ e → p ≡ f → ((K (e .0) → ⊥) → e ≡ f) → (K (o .0) → ⊥) → o ≡ p
+alike K e f o p a b h g = a ∙ h (λ s. g (subst (λ (x : Answer × Vec). K (x .0)) (sym a) s)) ∙ sym b
 
 pub solve-finite-out-calls : (m n u vt : ℕ) (tol : Float) (d b x : Vec) (o : Answer × Vec) → o ≡ solve m n u vt tol d b x → o .0 .answer ≡ 0 → Finite (o .1)
 solve-finite-out-calls m n u vt tol d b x o p = given _ o p (solve-finite-out m n u vt tol d b x)
@@ -37,15 +41,15 @@ qr-q-finite-out-calls m k a x o p = given _ o p (qr-q-finite-out m k a x)
 
 -- two calls that differ in what the answer array held before, x and y
 pub solve-old-contents-calls : (m n u vt : ℕ) (tol : Float) (d b x y : Vec) (o p : Answer × Vec) → length x ≡ length y
-    → o ≡ solve m n u vt tol d b x → p ≡ solve m n u vt tol d b y → (Early (o .0) → ⊥) → o ≡ p
-solve-old-contents-calls m n u vt tol d b x y o p l e f = alike _ _ o p e f (solve-old-contents m n u vt tol d b x y l)
+    → o ≡ solve m n u vt tol d b x → p ≡ solve m n u vt tol d b y → (EarlyOr11 (o .0) → ⊥) → o ≡ p
+solve-old-contents-calls m n u vt tol d b x y o p l e f = alike EarlyOr11 _ _ o p e f (solve-old-contents m n u vt tol d b x y l)
 
 pub pseudo-inverse-old-contents-calls : (m n u vt : ℕ) (tol : Float) (d x y : Vec) (o p : Answer × Vec) → length x ≡ length y
-    → o ≡ pseudoInverse m n u vt tol d x → p ≡ pseudoInverse m n u vt tol d y → (Early (o .0) → ⊥) → o ≡ p
-pseudo-inverse-old-contents-calls m n u vt tol d x y o p l e f = alike _ _ o p e f (pseudo-inverse-old-contents m n u vt tol d x y l)
+    → o ≡ pseudoInverse m n u vt tol d x → p ≡ pseudoInverse m n u vt tol d y → (EarlyOr11 (o .0) → ⊥) → o ≡ p
+pseudo-inverse-old-contents-calls m n u vt tol d x y o p l e f = alike EarlyOr11 _ _ o p e f (pseudo-inverse-old-contents m n u vt tol d x y l)
 
 pub qr-q-old-contents-calls : (m k : ℕ) (a x y : Vec) (o p : Answer × Vec) → length x ≡ length y → o ≡ qrQ m k a x → p ≡ qrQ m k a y → (Early (o .0) → ⊥) → o ≡ p
-qr-q-old-contents-calls m k a x y o p l e f = alike _ _ o p e f (qr-q-old-contents m k a x y l)
+qr-q-old-contents-calls m k a x y o p l e f = alike Early _ _ o p e f (qr-q-old-contents m k a x y l)
 
 -- what the index says
 pointed : (P : Answer → Type 0) (e o : Answer × Vec) → o ≡ e → (AtMark (e .0) → P (e .0)) → AtMark (o .0) → P (o .0)
@@ -71,3 +75,17 @@ qr-q-index-points-calls m k a x o p = pointed (Qr.Points m k a) _ o p (qr-q-inde
 
 pub qr-q-index-zero-calls : (m k : ℕ) (a x : Vec) (o : Answer × Vec) → o ≡ qrQ m k a x → (AtMark (o .0) → ⊥) → o .0 .index ≡ 0
 qr-q-index-zero-calls m k a x o p = unmarked _ o p (qr-q-index-zero m k a x)
+
+-- a call with the tolerance -0.0, and one with 0
+pub solve-tolerance-zero-calls : (m n u vt : ℕ) (d b x : Vec) (o p : Answer × Vec) → o ≡ solve m n u vt (neg zero64) d b x → p ≡ solve m n u vt zero64 d b x → o ≡ p
+solve-tolerance-zero-calls m n u vt d b x o p e f = e ∙ solve-tolerance-zero m n u vt d b x ∙ sym f
+
+pub pseudo-inverse-tolerance-zero-calls : (m n u vt : ℕ) (d x : Vec) (o p : Answer × Vec) → o ≡ pseudoInverse m n u vt (neg zero64) d x → p ≡ pseudoInverse m n u vt zero64 d x → o ≡ p
+pseudo-inverse-tolerance-zero-calls m n u vt d x o p e f = e ∙ pseudo-inverse-tolerance-zero m n u vt d x ∙ sym f
+
+-- a call whose tolerance is not refused
+pub solve-as-before-calls : (m n u vt : ℕ) (tol : Float) (d b x : Vec) (o : Answer × Vec) → o ≡ solve m n u vt tol d b x → toleranceGood tol ≡ true → o ≡ solveBefore m n u vt tol d b x
+solve-as-before-calls m n u vt tol d b x o p g = p ∙ solve-as-before m n u vt tol d b x g
+
+pub pseudo-inverse-as-before-calls : (m n u vt : ℕ) (tol : Float) (d x : Vec) (o : Answer × Vec) → o ≡ pseudoInverse m n u vt tol d x → toleranceGood tol ≡ true → o ≡ pseudoInverseBefore m n u vt tol d x
+pseudo-inverse-as-before-calls m n u vt tol d x o p g = p ∙ pseudo-inverse-as-before m n u vt tol d x g

@@ -1,11 +1,11 @@
--- An svd that is done, with both factors, is taken by `pseudo_inverse` and by `solve`: neither refuses the decomposition. Laws only.
+-- An svd that is done, with both factors, is taken by `pseudo_inverse` and by `solve`: neither refuses the decomposition, but only a tolerance or a right side. Laws only.
 use mathlib.Core.Path.{_≡_, refl, sym, ap, _∙_, subst}
 use mathlib.Core.Logic.{_⊎_, inl, inr}
-use mathlib.Core.Bool.{cond}
+use mathlib.Core.Bool.{Bool, true, false, cond}
 use mathlib.Core.List.{_++_}
 use Prim.Native.Nat.{ℕ, _+_, _*_, _<_}
 use native.Mathlib.Decide.{ℕ-discrete}
-use borrow.Author.Tests.{le-ltb, eq-eqb, ne-eqb}
+use borrow.Author.Tests.{eq-eqb}
 use lib.Ieee.{Float}
 use lib.ListN.{length}
 use Rattle.grid.specs.Real.{Vec, at}
@@ -14,24 +14,32 @@ use Rattle.leaves.specs.ScanLaws.{orElse, behind, firstBad-none, firstBad-fine,
 use Rattle.leaves.specs.Finite.{Finite}
 use Rattle.leaves.specs.declared.Bad.{Bad}
 use Rattle.leaves.specs.declared.Bad.the-variants.{At, Nowhere}
-use Rattle.answers.specs.Answers.{answered, done, refused, emptied, marked, lengths, unlessBad, least, present, decompositionLength}
+use Rattle.answers.specs.Answers.{answered, done, refused, emptied, marked, toleranceGood, lengths, fitting, unlessBad, least, present, decompositionLength}
 use Rattle.answers.specs.OutcomeLaws.{present-is}
+use Rattle.answers.specs.ToleranceLaws.{fitting-11, fitting-lengths}
 use Rattle.answers.specs.declared.Answer.{Answer}
 use Rattle.svd.specs.Exact.{Outcome, Promised, Taken}
 use Rattle.svd.specs.ExactLaws.{taken-of}
 use Rattle.svd.specs.Out.{svd-long, svd-finite-out}
 use Rattle.svd.specs.Svd.{svd}
+use Rattle.solve.specs.Checked.{solve-checks-5, solve-checks-last, inverse-checks-last}
 use Rattle.solve.specs.Solve.{solveChecks, inverseChecks, looked, solution, inverted, solve, pseudoInverse}
 
 -- done, or refused by mark 2 with the index i and the class c: a value is too small to divide by
 abbrev pub Ends : Answer → Type 0
 Ends x = (x ≡ done 0) ⊎ ((i : ℕ) × (c : ℕ) × ((c ≡ 8) ⊎ (c ≡ 10)) × (x ≡ answered c 2 i 0))
 
--- what `solve` says of a right side: its length, its first number that is not finite behind the l numbers of the decomposition, or nothing
-pub data Says (m l : ℕ) (b : Vec) (x : Answer) : Type 0 where
-  length-wrong : (length b ≡ m → ⊥) → x ≡ refused 5 0 → Says m l b x
-  not-finite : length b ≡ m → (i c : ℕ) → firstBad b ≡ At i c → x ≡ refused 7 (l + i) → Says m l b x
-  ends : length b ≡ m → Finite b → Ends x → Says m l b x
+-- what `pseudo_inverse` says of a tolerance: that it is refused, or nothing
+pub data Weighs (tol : Float) (x : Answer) : Type 0 where
+  refuses : toleranceGood tol ≡ false → x ≡ refused 11 0 → Weighs tol x
+  takes : toleranceGood tol ≡ true → Ends x → Weighs tol x
+
+-- what `solve` says of a right side and a tolerance: the right side's length, the tolerance, the right side's first number that is not finite behind the l numbers of the decomposition, or nothing
+pub data Says (m l : ℕ) (tol : Float) (b : Vec) (x : Answer) : Type 0 where
+  length-wrong : (length b ≡ m → ⊥) → x ≡ refused 5 0 → Says m l tol b x
+  tolerance-bad : length b ≡ m → toleranceGood tol ≡ false → x ≡ refused 11 0 → Says m l tol b x
+  not-finite : length b ≡ m → toleranceGood tol ≡ true → (i c : ℕ) → firstBad b ≡ At i c → x ≡ refused 7 (l + i) → Says m l tol b x
+  ends : length b ≡ m → toleranceGood tol ≡ true → Finite b → Ends x → Says m l tol b x
 
 looked-ends : (x : Vec) → Ends (looked x .0)
 unfolding looked
@@ -64,30 +72,43 @@ module _ (m n u vt hasU hasVt limit : ℕ) (matrix work result : Vec) (x : Outco
   seen : (b : Vec) → firstBad (x .2 ++ b) ≡ behind (length (x .2)) (firstBad b)
   seen b = scan-both (x .2) b ∙ ap (λ (f : Bad). orElse f (behind (length (x .2)) (firstBad b))) clean
 
+  -- the checks come to the tolerance and the lengths
+  inverse-last : (tol : Float) (answer : Vec) → inverseChecks m n hasU hasVt tol (length (x .2)) (length answer) ≡ fitting tol (length (x .2)) (decompositionLength m n hasU hasVt) (length answer) (n * m)
+  inverse-last tol answer = inverse-checks-last m n hasU hasVt tol (length (x .2)) (length answer) (taken .tall) (taken .wide) flagU flagVt
+
+  solve-last : (tol : Float) (b answer : Vec) → length b ≡ m
+      → solveChecks m n hasU hasVt tol (length (x .2)) (length b) (length answer) ≡ fitting tol (length (x .2)) (decompositionLength m n hasU hasVt) (length answer) n
+  solve-last tol b answer = solve-checks-last m n hasU hasVt tol (length (x .2)) (length answer) (taken .tall) (taken .wide) flagU flagVt (length b)
+
+  -- and the lengths are right
+  fits : (tol : Float) (answer : Vec) (want : ℕ) → toleranceGood tol ≡ true → length answer ≡ want → fitting tol (length (x .2)) (decompositionLength m n hasU hasVt) (length answer) want ≡ done 0
+  unfolding lengths
+  fits tol answer want g l =
+      fitting-lengths tol (length (x .2)) (decompositionLength m n hasU hasVt) (length answer) want g
+      ∙ rw (eq-eqb (length (x .2)) (decompositionLength m n hasU hasVt) long, eq-eqb (length answer) want l)
+
   -- **svd-then-pseudo-inverse**
-  pub svd-then-pseudo-inverse : (tol : Float) (answer : Vec) → length answer ≡ n * m → Ends (pseudoInverse m n hasU hasVt tol (x .2) answer .0)
-  unfolding pseudoInverse inverseChecks lengths
-  svd-then-pseudo-inverse tol answer l =
-      subst (λ (o : Answer × Vec). Ends (o .0)) (sym is) (looked-ends (inverted m n tol (x .2)))
+  pub svd-then-pseudo-inverse : (tol : Float) (answer : Vec) → length answer ≡ n * m → Weighs tol (pseudoInverse m n hasU hasVt tol (x .2) answer .0)
+  unfolding pseudoInverse
+  svd-then-pseudo-inverse tol answer l = go (toleranceGood tol) refl
     where
-      is : pseudoInverse m n hasU hasVt tol (x .2) answer ≡ looked (inverted m n tol (x .2))
-      is = simp (le-ltb 256 m (taken .tall), le-ltb 256 n (taken .wide), ne-eqb hasU 0 flagU, ne-eqb hasVt 0 flagVt, eq-eqb (length (x .2)) (decompositionLength m n hasU hasVt) long, eq-eqb (length answer) (n * m) l, clean)
+      go : (g : Bool) → toleranceGood tol ≡ g → Weighs tol (pseudoInverse m n hasU hasVt tol (x .2) answer .0)
+      go false g = refuses g (rw (inverse-last tol answer, fitting-11 tol (length (x .2)) (decompositionLength m n hasU hasVt) (length answer) (n * m) g))
+      go true g = takes g (rw (inverse-last tol answer, fits tol answer (n * m) g l, clean) (looked-ends (inverted m n tol (x .2))))
 
   -- **svd-then-solve**
-  pub svd-then-solve : (tol : Float) (b answer : Vec) → length answer ≡ n → Says m (length (x .2)) b (solve m n hasU hasVt tol (x .2) b answer .0)
-  unfolding solve solveChecks lengths
+  pub svd-then-solve : (tol : Float) (b answer : Vec) → length answer ≡ n → Says m (length (x .2)) tol b (solve m n hasU hasVt tol (x .2) b answer .0)
+  unfolding solve
   svd-then-solve tol b answer l = elim (ℕ-discrete (length b) m) [
-    | no d ↦
-        length-wrong d (simp (le-ltb 256 m (taken .tall), le-ltb 256 n (taken .wide), ne-eqb hasU 0 flagU, ne-eqb hasVt 0 flagVt, ne-eqb (length b) m d))
-    | yes e ↦ subst (λ (o : Answer × Vec). Says m (length (x .2)) b (o .0)) (sym (is e ∙ ap rest (seen b))) (scanned e (firstBad b) refl)
+    | no d ↦ length-wrong d (rw (solve-checks-5 m n hasU hasVt tol (length (x .2)) (length answer) (taken .tall) (taken .wide) flagU flagVt (length b) d))
+    | yes e ↦ go e (toleranceGood tol) refl
   ]
     where
-      rest : Bad → Answer × Vec
-      rest bad = unlessBad bad answer (looked (solution m n tol (x .2) b))
+      scanned : length b ≡ m → toleranceGood tol ≡ true → (bad : Bad) → firstBad b ≡ bad
+          → Says m (length (x .2)) tol b (unlessBad (behind (length (x .2)) bad) answer (looked (solution m n tol (x .2) b)) .0)
+      scanned e g (At i c) q = not-finite e g i c q refl
+      scanned e g Nowhere q = ends e g (firstBad-none b q) (looked-ends (solution m n tol (x .2) b))
 
-      is : length b ≡ m → solve m n hasU hasVt tol (x .2) b answer ≡ rest (firstBad (x .2 ++ b))
-      is e = simp (le-ltb 256 m (taken .tall), le-ltb 256 n (taken .wide), ne-eqb hasU 0 flagU, ne-eqb hasVt 0 flagVt, eq-eqb (length b) m e, eq-eqb (length (x .2)) (decompositionLength m n hasU hasVt) long, eq-eqb (length answer) n l)
-
-      scanned : length b ≡ m → (bad : Bad) → firstBad b ≡ bad → Says m (length (x .2)) b (rest (behind (length (x .2)) bad) .0)
-      scanned e (At i c) q = not-finite e i c q refl
-      scanned e Nowhere q = ends e (firstBad-none b q) (looked-ends (solution m n tol (x .2) b))
+      go : length b ≡ m → (g : Bool) → toleranceGood tol ≡ g → Says m (length (x .2)) tol b (solve m n hasU hasVt tol (x .2) b answer .0)
+      go e false g = tolerance-bad e g (rw (solve-last tol b answer e, fitting-11 tol (length (x .2)) (decompositionLength m n hasU hasVt) (length answer) n g))
+      go e true g = rw (solve-last tol b answer e, fits tol answer n g l, seen b) (scanned e g (firstBad b) refl)

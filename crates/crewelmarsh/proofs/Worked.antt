@@ -31,7 +31,8 @@ data Row : Type 0 where
   hypot : (x y r : ℕ) → Row
   eigen : (n : ℕ) (matrix : List ℕ) (answer place index count : ℕ) (result : List ℕ) → Row
   svd : (m n : ℕ) (matrix : List ℕ) (count : ℕ) (result : List ℕ) → Row
-  pseudoInverse : (m n tolerance : ℕ) (decomposition answer : List ℕ) → Row
+  solve : (m n tolerance : ℕ) (decomposition right : List ℕ) (number : ℕ) (answer : List ℕ) → Row
+  pseudoInverse : (m n tolerance : ℕ) (decomposition : List ℕ) (number : ℕ) (answer : List ℕ) → Row
   qrQ : (m k : ℕ) (matrix answer : List ℕ) → Row
 
 alike : List ℕ → List ℕ → Bool
@@ -62,7 +63,7 @@ ones n = replicate n one64
 
 -- a call gives these numbers: (four numbers, work, result)
 unfoldable given : Row → List ℕ
-unfolding ofBits toBits number bits of-bits numbers ones add sub mul div neg lt le eq ne lo.seek lo.first lo.times lo.upto lo.down lo.rounds lo.drops lo.fall ta.table ta.rows ro.whole ro.rootOf ro.root le.magnitude le.larger le.isFinite le.hypotOf le.hypot sc.classOf sc.scan sc.placeOf sc.lowerOf sc.firstBadLower sc.byRows an.limitGood an.lengths an.least an.present an.decompositionLength tr.scaleOf tr.skipRow tr.overScale tr.clear tr.against tr.generate tr.similarColumn tr.similarity tr.overH tr.lessen tr.updateColumn tr.updates tr.reflect tr.skip tr.reduce tr.householder tr.reduction tr.columnOver tr.dot tr.takeOff tr.turnColumns tr.clearColumn tr.apply tr.accumulate tr.accumulation tr.copyLast tr.moveLast tr.tred2 pa.pythag pa.signed pa.shift pa.lessened pa.rotated pa.spin pa.spins pa.landed pa.transformed pa.mark1 pa.settled pa.verdict pa.pass ql.movedUp ql.split ql.opened ql.iterated ql.closed ql.stage ql.turn ql.run ql.leastFrom ql.swapped ql.sortStep ql.sorted ql.mark2 ql.finished ql.tql2 ei.copyRow ei.columns ei.mirrorRow ei.rows ei.mark0 ei.afterTred ei.decomposed ei.given ei.entered ei.eigen sw.gram sw.skipped sw.rotationOf sw.turned sw.pairDone sw.pairsOf sw.sweep ja.factorsBad ja.verdict ja.swept ja.sweeps ja.normSq ja.divided ja.normalStep ja.normalised ja.allBad ja.finished ja.jacobi so.rank so.noted so.order sv.longest sv.workLength sv.source sv.columnLoaded sv.matrixLoaded sv.eyed sv.loaded sv.columnOut sv.factorOut sv.sortedOut sv.checks sv.ran sv.svd sl.columnSum sl.coefficient sl.solution sl.inverse sl.pinvSum sl.inverted sl.solveChecks sl.inverseChecks sl.looked sl.solve sl.pseudoInverse qr.dot qr.lessened qr.pass qr.passes qr.norm qr.over qr.normalised qr.putColumn qr.finished qr.column qr.columns qr.checks qr.qrQ
+unfolding ofBits toBits number bits of-bits numbers ones add sub mul div neg lt le eq ne lo.seek lo.first lo.times lo.upto lo.down lo.rounds lo.drops lo.fall ta.table ta.rows ro.whole ro.rootOf ro.root le.magnitude le.larger le.isFinite le.hypotOf le.hypot sc.classOf sc.scan sc.placeOf sc.lowerOf sc.firstBadLower sc.byRows an.limitGood an.toleranceGood an.lengths an.fitting an.least an.present an.decompositionLength tr.scaleOf tr.skipRow tr.overScale tr.clear tr.against tr.generate tr.similarColumn tr.similarity tr.overH tr.lessen tr.updateColumn tr.updates tr.reflect tr.skip tr.reduce tr.householder tr.reduction tr.columnOver tr.dot tr.takeOff tr.turnColumns tr.clearColumn tr.apply tr.accumulate tr.accumulation tr.copyLast tr.moveLast tr.tred2 pa.pythag pa.signed pa.shift pa.lessened pa.rotated pa.spin pa.spins pa.landed pa.transformed pa.mark1 pa.settled pa.verdict pa.pass ql.movedUp ql.split ql.opened ql.iterated ql.closed ql.stage ql.turn ql.run ql.leastFrom ql.swapped ql.sortStep ql.sorted ql.mark2 ql.finished ql.tql2 ei.copyRow ei.columns ei.mirrorRow ei.rows ei.mark0 ei.afterTred ei.decomposed ei.given ei.entered ei.eigen sw.gram sw.skipped sw.rotationOf sw.turned sw.pairDone sw.pairsOf sw.sweep ja.factorsBad ja.verdict ja.swept ja.sweeps ja.normSq ja.divided ja.normalStep ja.normalised ja.allBad ja.finished ja.jacobi so.rank so.noted so.order sv.longest sv.workLength sv.source sv.columnLoaded sv.matrixLoaded sv.eyed sv.loaded sv.columnOut sv.factorOut sv.sortedOut sv.checks sv.ran sv.svd sl.columnSum sl.coefficient sl.solution sl.inverse sl.pinvSum sl.inverted sl.solveChecks sl.inverseChecks sl.looked sl.solve sl.pseudoInverse qr.dot qr.lessened qr.pass qr.passes qr.norm qr.over qr.normalised qr.putColumn qr.finished qr.column qr.columns qr.checks qr.qrQ
 given (root x r) = toBits binary64 (ro.root (number x)) ∷ []
 given (hypot x y r) = toBits binary64 (le.hypot (number x) (number y)) ∷ []
 given (eigen n matrix answer place index count result) =
@@ -71,7 +72,10 @@ given (eigen n matrix answer place index count result) =
 given (svd m n matrix count result) =
     let x = sv.svd m n 1 1 60 (of-bits matrix) (ones (sv.workLength m n)) (ones (length result)) in
     numbers (x .0) ++ bits (x .1) ++ bits (x .2)
-given (pseudoInverse m n tolerance decomposition answer) =
+given (solve m n tolerance decomposition right k answer) =
+    let x = sl.solve m n 1 1 (number tolerance) (of-bits decomposition) (of-bits right) (ones n) in
+    numbers (x .0) ++ bits (x .1)
+given (pseudoInverse m n tolerance decomposition k answer) =
     let x = sl.pseudoInverse m n 1 1 (number tolerance) (of-bits decomposition) (ones (n * m)) in
     numbers (x .0) ++ bits (x .1)
 given (qrQ m k matrix answer) =
@@ -85,7 +89,8 @@ wanted (root x r) = r ∷ []
 wanted (hypot x y r) = r ∷ []
 wanted (eigen n matrix answer place index count result) = (answer ∷ place ∷ index ∷ count ∷ []) ++ replicate n 0 ++ result
 wanted (svd m n matrix count result) = (0 ∷ 0 ∷ 0 ∷ count ∷ []) ++ replicate (sv.workLength m n) 0 ++ result
-wanted (pseudoInverse m n tolerance decomposition answer) = (0 ∷ 0 ∷ 0 ∷ 0 ∷ []) ++ answer
+wanted (solve m n tolerance decomposition right k answer) = (k ∷ 0 ∷ 0 ∷ 0 ∷ []) ++ answer
+wanted (pseudoInverse m n tolerance decomposition k answer) = (k ∷ 0 ∷ 0 ∷ 0 ∷ []) ++ answer
 wanted (qrQ m k matrix answer) = (0 ∷ 0 ∷ 0 ∷ 0 ∷ []) ++ answer
 
 unfoldable all : List Row → Bool
@@ -121,9 +126,23 @@ minus-zero = 0x8000_0000_0000_0000
 abbrev not-a-number : ℕ
 not-a-number = 0x7ff8_0000_0000_0000
 
+abbrev infinity : ℕ
+infinity = 0x7ff0_0000_0000_0000
+
+abbrev minus-infinity : ℕ
+minus-infinity = 0xfff0_0000_0000_0000
+
+-- -2^-1074
+abbrev minus-least : ℕ
+minus-least = 0x8000_0000_0000_0001
+
 -- the svd of the diagonal matrix (2, 4): values 4, 2, U and V^T
 abbrev decomposition : List ℕ
 decomposition = four ∷ two ∷ 0 ∷ one ∷ one ∷ 0 ∷ 0 ∷ one ∷ one ∷ 0 ∷ []
+
+-- an answer of 2 by 2 as it was lent
+abbrev untouched : List ℕ
+untouched = one ∷ one ∷ one ∷ one ∷ []
 
 table : List Row
 table =
@@ -139,8 +158,15 @@ table =
     ∷ eigen 2 (one ∷ not-a-number ∷ 0 ∷ two ∷ []) 0 0 0 0 (one ∷ two ∷ one ∷ 0 ∷ 0 ∷ one ∷ [])
     ∷ eigen 2 (one ∷ 0 ∷ not-a-number ∷ two ∷ []) 7 2 0 0 (0 ∷ 0 ∷ 0 ∷ 0 ∷ 0 ∷ 0 ∷ [])
     ∷ svd 2 2 (two ∷ 0 ∷ 0 ∷ four ∷ []) 1 decomposition
-    ∷ pseudoInverse 2 2 0 decomposition (half ∷ 0 ∷ 0 ∷ quarter ∷ [])
-    ∷ pseudoInverse 2 2 two decomposition (0 ∷ 0 ∷ 0 ∷ quarter ∷ [])
+    ∷ pseudoInverse 2 2 0 decomposition 0 (half ∷ 0 ∷ 0 ∷ quarter ∷ [])
+    ∷ pseudoInverse 2 2 two decomposition 0 (0 ∷ 0 ∷ 0 ∷ quarter ∷ [])
+    ∷ pseudoInverse 2 2 minus-zero decomposition 0 (half ∷ 0 ∷ 0 ∷ quarter ∷ [])
+    ∷ pseudoInverse 2 2 infinity decomposition 0 (0 ∷ 0 ∷ 0 ∷ 0 ∷ [])
+    ∷ pseudoInverse 2 2 not-a-number decomposition 11 untouched
+    ∷ pseudoInverse 2 2 minus-least decomposition 11 untouched
+    ∷ pseudoInverse 2 2 minus-infinity decomposition 11 untouched
+    ∷ solve 2 2 minus-zero decomposition (four ∷ four ∷ []) 0 (two ∷ one ∷ [])
+    ∷ solve 2 2 not-a-number decomposition (four ∷ four ∷ []) 11 (one ∷ one ∷ [])
     ∷ qrQ 1 1 (0x3cb0_0000_0000_0000 ∷ []) (0 ∷ [])
     ∷ qrQ 1 1 (0x3cc0_0000_0000_0000 ∷ []) (one ∷ [])
     ∷ []

@@ -2,14 +2,18 @@
 use mathlib.Core.Path.{_≡_, refl, sym, ap, _∙_}
 use mathlib.Core.Bool.{Bool, true, false, cond, not, _||_}
 use Prim.Native.Nat.{ℕ, _+_, _*_, _≤_}
+use native.Mathlib.Decide.{ℕ-discrete}
 use native.Mathlib.Omega.{arith}
-use borrow.Author.Tests.{ltb-false, le-ltb, eqb-true}
+use borrow.Author.Tests.{ltb-false, le-ltb, eqb-false}
 use lib.Dec.{ltb, eqb}
-use Rattle.answers.specs.Answers.{refused, done, lengths, least, present, decompositionLength}
+use lib.Ieee.{Float}
+use Rattle.answers.specs.Answers.{refused, done, fitting, least, present, decompositionLength}
 use Rattle.answers.specs.AnswersLaws.{least-le, product-le}
+use Rattle.answers.specs.ToleranceLaws.{fitting-right}
 use Rattle.answers.specs.declared.Answer.{Answer}
 use Rattle.solve.specs.Solve.{parts, solveChecks, inverseChecks}
 use Rattle.solve.specs.SolveLaws.{Sized}
+use Rattle.solve.specs.Checked.{solve-checks-5, solve-checks-last, inverse-checks-last}
 
 -- the answer is that of the checks
 pub told : {r s : Answer} → r ≡ s → r .answer ≡ 0 → s .answer ≡ 0
@@ -51,42 +55,37 @@ there m n u vt later e h = go (ltb 256 m) refl (ltb 256 n) refl (eqb u 0) refl (
 pub goes : (m n u vt : ℕ) (later : Answer) → There m n u vt → later ≡ parts m n u vt later
 goes m n u vt later t = rw (le-ltb 256 m (t .few), le-ltb 256 n (t .narrow), t .has-u, t .has-vt)
 
-two-right : (a wa b wb : ℕ) → lengths a wa b wb 0 0 .answer ≡ 0 → (a ≡ wa) × (b ≡ wb)
-unfolding lengths
-two-right a wa b wb = go (eqb a wa) refl (eqb b wb) refl
-  where
-    go : (p : Bool) → eqb a wa ≡ p → (q : Bool) → eqb b wb ≡ q → cond p (cond q (done 0) (refused 6 1)) (refused 6 0) .answer ≡ 0 → (a ≡ wa) × (b ≡ wb)
-    go true e true f h = (eqb-true a wa e, eqb-true b wb f)
-    go true e false f h = absurd (omega arith)
-    go false e q f h = absurd (omega arith)
-
 whole : (m n u vt l : ℕ) → There m n u vt → l ≡ decompositionLength m n u vt → Sized m n l
 unfolding decompositionLength present
 whole m n u vt l t e = record { few = t .few; narrow = t .narrow; whole = rw (t .has-u, t .has-vt) at e }
 
-pub solve-sized : (m n u vt d b x : ℕ) → solveChecks m n u vt d b x .answer ≡ 0 → Sized m n d × (b ≡ m) × (x ≡ n)
-unfolding solveChecks
-solve-sized m n u vt d b x h = go (eqb b m) refl (told (sym (goes m n u vt later t)) h)
-  where
-    later : Answer
-    later = cond (not (eqb b m)) (refused 5 0) (lengths d (decompositionLength m n u vt) x n 0 0)
+fitting-sized : (m n u vt : ℕ) (tol : Float) (d x want : ℕ) → There m n u vt → fitting tol d (decompositionLength m n u vt) x want .answer ≡ 0 → Sized m n d × (x ≡ want)
+fitting-sized m n u vt tol d x want t h =
+    let w = fitting-right tol d (decompositionLength m n u vt) x want h in
+    (whole m n u vt d t (w .1), w .2)
 
-    t : There m n u vt
-    t = there m n u vt later refl h
+module _ (m n u vt : ℕ) (tol : Float) (d x : ℕ) where
+  pub solve-sized : (b : ℕ) → solveChecks m n u vt tol d b x .answer ≡ 0 → Sized m n d × (b ≡ m) × (x ≡ n)
+  unfolding solveChecks
+  solve-sized b h =
+      let t = there m n u vt (cond (not (eqb b m)) (refused 5 0) (fitting tol d (decompositionLength m n u vt) x n)) refl h in
+      let hasU = eqb-false u 0 (t .has-u) in
+      let hasVt = eqb-false vt 0 (t .has-vt) in
+      elim (ℕ-discrete b m) [
+        | yes e ↦
+            let w = fitting-sized m n u vt tol d x n t (told (solve-checks-last m n u vt tol d x (t .few) (t .narrow) hasU hasVt b e) h) in
+            (w .0, e, w .1)
+        | no q ↦ five (told (solve-checks-5 m n u vt tol d x (t .few) (t .narrow) hasU hasVt b q) h)
+      ]
+    where
+      five : refused 5 0 .answer ≡ 0 → Sized m n d × (b ≡ m) × (x ≡ n)
+      five e = absurd (omega arith)
 
-    go : (p : Bool) → eqb b m ≡ p → cond (not p) (refused 5 0) (lengths d (decompositionLength m n u vt) x n 0 0) .answer ≡ 0 → Sized m n d × (b ≡ m) × (x ≡ n)
-    go true e k =
-        let w = two-right d (decompositionLength m n u vt) x n k in
-        (whole m n u vt d t (w .0), eqb-true b m e, w .1)
-    go false e k = absurd (omega arith)
-
-pub inverse-sized : (m n u vt d x : ℕ) → inverseChecks m n u vt d x .answer ≡ 0 → Sized m n d × (x ≡ n * m)
-unfolding inverseChecks
-inverse-sized m n u vt d x h =
-    let later = lengths d (decompositionLength m n u vt) x (n * m) 0 0 in
-    let t = there m n u vt later refl h in
-    let w = two-right d (decompositionLength m n u vt) x (n * m) (told (sym (goes m n u vt later t)) h) in
-    (whole m n u vt d t (w .0), w .1)
+  pub inverse-sized : inverseChecks m n u vt tol d x .answer ≡ 0 → Sized m n d × (x ≡ n * m)
+  unfolding inverseChecks
+  inverse-sized h =
+      let t = there m n u vt (fitting tol d (decompositionLength m n u vt) x (n * m)) refl h in
+      fitting-sized m n u vt tol d x (n * m) t (told (inverse-checks-last m n u vt tol d x (t .few) (t .narrow) (eqb-false u 0 (t .has-u)) (eqb-false vt 0 (t .has-vt))) h)
 
 -- ---- the parts of a decomposition of length l
 

@@ -30,7 +30,7 @@ looked-good n x l = go (firstBad x) refl
 pub solve-good : (m n u vt : ℕ) (tol : Float) (d b x : Vec) → Good n (solve m n u vt tol d b x)
 unfolding solve solution
 solve-good m n u vt tol d b x =
-    check-good n (solveChecks m n u vt (length d) (length b) (length x)) x _
+    check-good n (solveChecks m n u vt tol (length d) (length b) (length x)) x _
     (unless-good n (firstBad (d ++ b)) x _ (looked-good n (solution m n tol d b) (length-table _ n)))
 
 -- **finite-out**
@@ -40,7 +40,7 @@ solve-finite-out m n u vt tol d b x = solve-good m n u vt tol d b x .finite
 pub pseudo-inverse-good : (m n u vt : ℕ) (tol : Float) (d x : Vec) → Good (n * m) (pseudoInverse m n u vt tol d x)
 unfolding pseudoInverse inverted
 pseudo-inverse-good m n u vt tol d x =
-    check-good (n * m) (inverseChecks m n u vt (length d) (length x)) x _
+    check-good (n * m) (inverseChecks m n u vt tol (length d) (length x)) x _
     (unless-good (n * m) (firstBad d) x _ (looked-good (n * m) (inverted m n tol d) (length-rows _ m n (λ k. length-table _ m))))
 
 pub pseudo-inverse-finite-out : (m n u vt : ℕ) (tol : Float) (d x : Vec) → pseudoInverse m n u vt tol d x .0 .answer ≡ 0 → Finite (pseudoInverse m n u vt tol d x .1)

@@ -10,7 +10,7 @@ use Rattle.grid.specs.Loop.{upto}
 use Rattle.grid.specs.Real.{Vec, zero64, one64, zeros, at, _⊕_, _⊗_, _⊘_}
 use Rattle.grid.specs.Cell.{entry}
 use Rattle.grid.specs.Table.{table, rows, part}
-use Rattle.answers.specs.Answers.{refused, done, passed, lengths, least, decompositionLength, emptied, marked, unlessBad}
+use Rattle.answers.specs.Answers.{refused, done, passed, fitting, least, decompositionLength, emptied, marked, unlessBad}
 use Rattle.answers.specs.declared.Answer.{Answer}
 use Rattle.leaves.specs.Scan.{isBad, firstBad}
 
@@ -66,7 +66,7 @@ inverted m n tol d =
     let r = least m n in
     rows (pinvRow m r n tol (valuesOf r d) (uOf m r d) (vtOf m r d)) n
 
--- ---- the checks, on lengths
+-- ---- the checks, on flags, tolerance and lengths
 
 -- 1, 3 and 4, or else what the later checks say
 abbrev pub parts : ℕ → ℕ → ℕ → ℕ → Answer → Answer
@@ -76,16 +76,16 @@ parts m n u vt later =
     (cond (eqb vt 0) (refused 4 0)
     later))
 
-unfoldable pub solveChecks : ℕ → ℕ → ℕ → ℕ → ℕ → ℕ → ℕ → Answer
-solveChecks m n u vt d b x =
+unfoldable pub solveChecks : ℕ → ℕ → ℕ → ℕ → Float → ℕ → ℕ → ℕ → Answer
+solveChecks m n u vt tol d b x =
     parts m n u vt
     (cond (not (eqb b m)) (refused 5 0)
-    (lengths d (decompositionLength m n u vt) x n 0 0))
+    (fitting tol d (decompositionLength m n u vt) x n))
 
-unfoldable pub inverseChecks : ℕ → ℕ → ℕ → ℕ → ℕ → ℕ → Answer
-inverseChecks m n u vt d x =
+unfoldable pub inverseChecks : ℕ → ℕ → ℕ → ℕ → Float → ℕ → ℕ → Answer
+inverseChecks m n u vt tol d x =
     parts m n u vt
-    (lengths d (decompositionLength m n u vt) x (n * m) 0 0)
+    (fitting tol d (decompositionLength m n u vt) x (n * m))
 
 -- ---- the outcomes: the four numbers, and the answer array x afterwards
 
@@ -96,14 +96,14 @@ looked x = cond (isBad (firstBad x)) (emptied (marked 2 0 (firstBad x)) x) (done
 -- refusal 7 looks at the decomposition d, then at the right side b
 unfoldable pub solve : ℕ → ℕ → ℕ → ℕ → Float → Vec → Vec → Vec → Answer × Vec
 solve m n u vt tol d b x =
-    let check = solveChecks m n u vt (length d) (length b) (length x) in
+    let check = solveChecks m n u vt tol (length d) (length b) (length x) in
     cond (passed check)
     (unlessBad (firstBad (d ++ b)) x (looked (solution m n tol d b)))
     (check, x)
 
 unfoldable pub pseudoInverse : ℕ → ℕ → ℕ → ℕ → Float → Vec → Vec → Answer × Vec
 pseudoInverse m n u vt tol d x =
-    let check = inverseChecks m n u vt (length d) (length x) in
+    let check = inverseChecks m n u vt tol (length d) (length x) in
     cond (passed check)
     (unlessBad (firstBad d) x (looked (inverted m n tol d)))
     (check, x)

@@ -14,8 +14,8 @@ ghost use Rattle.solve.specs.SolveLaws.{product, dot, Sized};
 use answers::Answer;
 use answers::decomposition_length;
 use answers::done;
+use answers::fitting;
 use answers::least;
-use answers::lengths;
 use answers::marked;
 use answers::refuse;
 use answers::refused;
@@ -198,11 +198,12 @@ fn solve_checks(
     n: usize,
     has_u: usize,
     has_vt: usize,
+    tolerance: f64,
     d: usize,
     b: usize,
     x: usize,
 ) -> Answer
-    ensures { λ r. ⌜ r ≡ solveChecks m n «has_u» «has_vt» d b x ⌝ }
+    ensures { λ r. ⌜ r ≡ solveChecks m n «has_u» «has_vt» tolerance d b x ⌝ }
 {
     let first = parts(m, n, has_u, has_vt);
     if first.answer != 0 {
@@ -212,18 +213,26 @@ fn solve_checks(
         return refused(5, 0);
     }
     let want = decomposition_length(m, n, has_u, has_vt);
-    lengths(d, want, x, n, 0, 0)
+    fitting(tolerance, d, want, x, n)
 }
 
-fn inverse_checks(m: usize, n: usize, has_u: usize, has_vt: usize, d: usize, x: usize) -> Answer
-    ensures { λ r. ⌜ r ≡ inverseChecks m n «has_u» «has_vt» d x ⌝ }
+fn inverse_checks(
+    m: usize,
+    n: usize,
+    has_u: usize,
+    has_vt: usize,
+    tolerance: f64,
+    d: usize,
+    x: usize,
+) -> Answer
+    ensures { λ r. ⌜ r ≡ inverseChecks m n «has_u» «has_vt» tolerance d x ⌝ }
 {
     let first = parts(m, n, has_u, has_vt);
     if first.answer != 0 {
         return first;
     }
     let want = decomposition_length(m, n, has_u, has_vt);
-    lengths(d, want, x, n * m, 0, 0)
+    fitting(tolerance, d, want, x, n * m)
 }
 
 // Mark 2 looks at the answer.
@@ -287,6 +296,7 @@ pub fn solve(
         n,
         has_u,
         has_vt,
+        tolerance,
         decomposition.len(),
         right_side.len(),
         answer.len(),
@@ -329,7 +339,15 @@ pub fn pseudo_inverse(
 ) -> Answer
     ensures { λ r. ⌜ (r, now (answer .exit)) ≡ pseudoInverse m n «has_u» «has_vt» tolerance (now (decomposition .entry)) (now (answer .entry)) ⌝ }
 {
-    let check = inverse_checks(m, n, has_u, has_vt, decomposition.len(), answer.len());
+    let check = inverse_checks(
+        m,
+        n,
+        has_u,
+        has_vt,
+        tolerance,
+        decomposition.len(),
+        answer.len(),
+    );
     if check.answer != 0 {
         return check;
     }

@@ -20,15 +20,15 @@ returns c = stops (c .before .before .before .args .m) (c .before .before .befor
 decomposition-length-requires : tie.Need-decomposition-length-requires
 decomposition-length-requires c κs = omega (arith, (there (c .before .before .before .args .m) (c .before .before .before .args .n) (c .before .before .before .args .has-u) (c .before .before .before .args .has-vt) (done 0) (c .before .before .parts .ensures) (c .if1 .left)))
 
-mul-lengths : tie.Need-mul-lengths
-mul-lengths c = omega (arith, product-le (c .before .before .before .before .args .n) (c .before .before .before .before .args .m) ((there (c .before .before .before .before .args .m) (c .before .before .before .before .args .n) (c .before .before .before .before .args .has-u) (c .before .before .before .before .args .has-vt) (done 0) (c .before .before .before .parts .ensures) (c .before .if1 .left)) .narrow) ((there (c .before .before .before .before .args .m) (c .before .before .before .before .args .n) (c .before .before .before .before .args .has-u) (c .before .before .before .before .args .has-vt) (done 0) (c .before .before .before .parts .ensures) (c .before .if1 .left)) .few))
+mul-fitting : tie.Need-mul-fitting
+mul-fitting c = omega (arith, product-le (c .before .before .before .before .args .n) (c .before .before .before .before .args .m) ((there (c .before .before .before .before .args .m) (c .before .before .before .before .args .n) (c .before .before .before .before .args .has-u) (c .before .before .before .before .args .has-vt) (done 0) (c .before .before .before .parts .ensures) (c .before .if1 .left)) .narrow) ((there (c .before .before .before .before .args .m) (c .before .before .before .before .args .n) (c .before .before .before .before .args .has-u) (c .before .before .before .before .args .has-vt) (done 0) (c .before .before .before .parts .ensures) (c .before .if1 .left)) .few))
 
-lengths-requires : tie.Need-lengths-requires
-lengths-requires c κs = search needs
+fitting-requires : tie.Need-fitting-requires
+fitting-requires c κs = search needs
 
 returns-2 : tie.Need-returns-2
 unfolding inverseChecks
-returns-2 c = c .lengths .ensures ∙ rw (c .before .decomposition-length .ensures) (goes _ _ _ _ _ (there (c .before .before .before .before .before .args .m) (c .before .before .before .before .before .args .n) (c .before .before .before .before .before .args .has-u) (c .before .before .before .before .before .args .has-vt) (done 0) (c .before .before .before .before .parts .ensures) (c .before .before .if1 .left)))
+returns-2 c = c .fitting .ensures ∙ rw (c .before .decomposition-length .ensures) (goes _ _ _ _ _ (there (c .before .before .before .before .before .args .m) (c .before .before .before .before .before .args .n) (c .before .before .before .before .before .args .has-u) (c .before .before .before .before .before .args .has-vt) (done 0) (c .before .before .before .before .parts .ensures) (c .before .before .if1 .left)))
 
 pub inverse-checks-spec : {M : Type 1} → statement M
 inverse-checks-spec =
@@ -37,6 +37,6 @@ inverse-checks-spec =
     parts-requires
     returns
     decomposition-length-requires
-    mul-lengths
-    lengths-requires
+    mul-fitting
+    fitting-requires
     returns-2)

@@ -15,7 +15,7 @@ unfolding pseudoInverse
 returns c = rw (← c .before .before .inverse-checks .ensures, ne-eqb _ 0 (c .if1 .taken))
 
 inverse-scanned-requires : tie.Need-inverse-scanned-requires
-inverse-scanned-requires c κs = inverse-sized _ _ _ _ _ _ (told (c .before .before .before .inverse-checks .ensures) (c .before .if1 .left))
+inverse-scanned-requires c κs = inverse-sized _ _ _ _ _ _ _ (told (c .before .before .before .inverse-checks .ensures) (c .before .if1 .left))
 
 same-length : tie.Need-same-length
 same-length c = search needs

@@ -15,7 +15,7 @@ unfolding solve
 returns c = rw (← c .before .before .solve-checks .ensures, ne-eqb _ 0 (c .if1 .taken))
 
 solve-scanned-requires : tie.Need-solve-scanned-requires
-solve-scanned-requires c κs = solve-sized _ _ _ _ _ _ _ (told (c .before .before .before .solve-checks .ensures) (c .before .if1 .left))
+solve-scanned-requires c κs = solve-sized _ _ _ _ _ _ _ _ (told (c .before .before .before .solve-checks .ensures) (c .before .if1 .left))
 
 same-length : tie.Need-same-length
 same-length c = search needs

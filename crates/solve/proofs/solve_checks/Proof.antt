@@ -27,12 +27,12 @@ returns-2 c = c .refused .ensures ∙ rw (ne-eqb _ _ (c .before .if2 .taken)) (g
 decomposition-length-requires : tie.Need-decomposition-length-requires
 decomposition-length-requires c κs = omega (arith, (there (c .before .before .before .before .args .m) (c .before .before .before .before .args .n) (c .before .before .before .before .args .has-u) (c .before .before .before .before .args .has-vt) (done 0) (c .before .before .before .parts .ensures) (c .before .if1 .left)))
 
-lengths-requires : tie.Need-lengths-requires
-lengths-requires c κs = search needs
+fitting-requires : tie.Need-fitting-requires
+fitting-requires c κs = search needs
 
 returns-3 : tie.Need-returns-3
 unfolding solveChecks
-returns-3 c = c .lengths .ensures ∙ rw (eq-eqb _ _ (c .before .before .if2 .left), c .before .decomposition-length .ensures) (goes _ _ _ _ _ (there (c .before .before .before .before .before .before .args .m) (c .before .before .before .before .before .before .args .n) (c .before .before .before .before .before .before .args .has-u) (c .before .before .before .before .before .before .args .has-vt) (done 0) (c .before .before .before .before .before .parts .ensures) (c .before .before .before .if1 .left)))
+returns-3 c = c .fitting .ensures ∙ rw (eq-eqb _ _ (c .before .before .if2 .left), c .before .decomposition-length .ensures) (goes _ _ _ _ _ (there (c .before .before .before .before .before .before .args .m) (c .before .before .before .before .before .before .args .n) (c .before .before .before .before .before .before .args .has-u) (c .before .before .before .before .before .before .args .has-vt) (done 0) (c .before .before .before .before .before .parts .ensures) (c .before .before .before .if1 .left)))
 
 pub solve-checks-spec : {M : Type 1} → statement M
 solve-checks-spec =
@@ -43,5 +43,5 @@ solve-checks-spec =
     refused-requires
     returns-2
     decomposition-length-requires
-    lengths-requires
+    fitting-requires
     returns-3)
