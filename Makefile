@@ -9,7 +9,7 @@
 # make compare-covariance
 #                    the covariance through the archive against 128-bit integers: SEED=..
 # make bench         document 000's Rust and the archive in one run
-# make bench-root    both ways to the square root, copied to C
+# make bench-root    the square root as it is compiled, beside the processor's and the former one
 .PHONY: all test fmt kit proofs-fresh clean
 
 all: archive
@@ -18,10 +18,11 @@ include tools/c.mk
 include tools/install.mk
 include tools/believe.mk
 include tools/rooms.mk
+include tools/pencil.mk
 include oracle/oracle.mk
 
 # What the gate runs before rt ci, since it takes no time, and what behind it.
-QUICK := verbatim rooms-check believe-check
+QUICK := verbatim rooms-check believe-check pencil-check
 GATE := archive boundary example-test
 
 test:

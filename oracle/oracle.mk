@@ -100,12 +100,13 @@ ifeq ($(shell uname -m),x86_64)
 MEASURED := $(ARCHIVE)
 else
 MEASURED := $(ORACLE)/native.o
-$(MEASURED): oracle/native.sh $(ARCHIVE)
+$(MEASURED): oracle/native.sh oracle/module.sh oracle/compile.sh $(ARCHIVE)
 	oracle/native.sh $@
 endif
 
 # The triple loop that the covariance is measured beside, by the machine's C compiler and by the toolchain's.
 TRIPLES := $(ORACLE)/triple_cc.o $(ORACLE)/triple_kit.o
+OWN_CLANG := --target=$(shell uname -m)-unknown-linux-gnu --no-default-config -nostdinc -std=c99 -Wall -Wextra -O3 -fPIC
 
 $(ORACLE)/triple_cc.o: oracle/triple.c
 	@mkdir -p $(ORACLE)
@@ -113,7 +114,7 @@ $(ORACLE)/triple_cc.o: oracle/triple.c
 
 $(ORACLE)/triple_kit.o: oracle/triple.c
 	@mkdir -p $(ORACLE)
-	$(CLANG) --target=$(shell uname -m)-unknown-linux-gnu --no-default-config -nostdinc -std=c99 -Wall -Wextra -O3 -fPIC -DTRIPLE=triple_kit -c $< -o $@
+	$(CLANG) $(OWN_CLANG) -DTRIPLE=triple_kit -c $< -o $@
 
 $(ORACLE)/bench: oracle/bench.rs oracle/bench_covariance.rs $(ORACLE)/liboracle.rlib $(MEASURED) $(TRIPLES)
 	$(ORACLE_RUSTC) --extern oracle=$(ORACLE)/liboracle.rlib -C link-arg=$(MEASURED) $(TRIPLES:%=-C link-arg=%) $< -o $@
@@ -129,10 +130,17 @@ bench-blocks: $(ORACLE)/bench
 bench-covariance: $(ORACLE)/bench
 	$(ORACLE)/bench covariance
 
-# A copy of the root in C and the school method, held to the processor's root and measured; no archive and no rustc.
-$(ORACLE)/root: oracle/root.c
+# The root as it is compiled, held to the processor's and measured beside it and beside what stood there before; no archive and no rustc.
+$(ORACLE)/root_leaves.o: oracle/root.sh oracle/module.sh oracle/compile.sh $(wildcard crates/leaves/src/*.rt crates/vectors/src/*.rt)
 	@mkdir -p $(ORACLE)
-	$(CC) -std=c99 -Wall -Wextra -O2 -ffp-contract=off -fno-math-errno -fno-tree-vectorize $< -o $@
+	oracle/root.sh $@
+
+$(ORACLE)/root_former.o: oracle/root_former.c
+	@mkdir -p $(ORACLE)
+	$(CLANG) $(OWN_CLANG) -ffp-contract=off -c $< -o $@
+
+$(ORACLE)/root: oracle/root.c $(ORACLE)/root_leaves.o $(ORACLE)/root_former.o
+	$(CC) -std=c99 -Wall -Wextra -O2 -ffp-contract=off -fno-math-errno $^ -o $@
 
 bench-root: $(ORACLE)/root
 	$(ORACLE)/root

@@ -1,12 +1,15 @@
-/* The square root of crates/leaves/src/lib.rt copied to C, function by function, and the school method alone beside it: both held to the
-   processor's own root on random numbers, how often the guess is not enough, and the times of the three. The archive has no entry for the
-   root, so a copy is what can be measured; what the copy gives says nothing about the proved one. root.c COUNT. */
+/* `leaves::root` as it is compiled (oracle/root.sh) beside the processor's own root and what stood in its place before (oracle/root_former.c): each held to the
+   processor's on random numbers, and the times of all in one run. root COUNT. */
 #define _POSIX_C_SOURCE 199309L
 #include <stdint.h>
 #include <stdio.h>
 #include <stdlib.h>
 #include <string.h>
 #include <time.h>
+
+double leaves_root(double x);
+double former_root(double x);
+double factor_root(double x);
 
 static const uint64_t one = UINT64_C(1) << 52;
 static const uint64_t infinity = UINT64_C(0x7ff0000000000000);
@@ -25,89 +28,8 @@ static uint64_t to_bits(double x)
     return bits;
 }
 
-/* ---- the copy */
-
-static unsigned long fell_back; /* how often the school method was needed */
-
-static uint64_t whole_root(uint64_t n)
-{
-    uint64_t a = n << 10, s = 0, r = 0;
-    int i;
-    for (i = 0; i < 54; i++) {
-        uint64_t d = r * 4 + (a >> 62), t = s * 4 + 1, digit = t <= d;
-        a <<= 2;
-        r = d - t * digit;
-        s = s * 2 + digit;
-    }
-    return s;
-}
-
-static uint64_t significand(uint64_t b) { return b < one ? b << (__builtin_clzll(b) - 11) : one + b % one; }
-
-static uint64_t exponent(uint64_t b) { return b < one ? 64 - (uint64_t)__builtin_clzll(b) : b / one + 52; }
-
-static uint64_t paired(uint64_t m, uint64_t x) { return x % 2 == 0 ? m * 2 : m; }
-
-static double closer(double half, double z) { return z * (1.5 - half * z * z); }
-
-static uint64_t pattern(double y) { return y == y ? to_bits(y) : 0; }
-
-static uint64_t guess(uint64_t b)
-{
-    double x = from_bits(b), half = x * 0.5;
-    double z0 = from_bits(UINT64_C(0x5fe6eb50c7b537a9) - b / 2);
-    double z = closer(half, closer(half, closer(half, z0)));
-    double y = x * z;
-    return pattern(y + 0.5 * z * (x - y * y));
-}
-
-static int is_half(uint64_t n, uint64_t q)
-{
-    uint64_t a = q / 0x4000000, c = q % 0x4000000, e = 2 * (a * c);
-    uint64_t h = a * a + e / 0x4000000, l = e % 0x4000000 * 0x4000000 + c * c;
-    if (n + 2 <= h + (l + 2 * one - q) / one)
-        return 0;
-    return n <= h + (l + q) / one;
-}
-
-static uint64_t half(uint64_t n, uint64_t q)
-{
-    if (is_half(n, q))
-        return q;
-    if (is_half(n, q + 1))
-        return q + 1;
-    if (is_half(n, q - 1))
-        return q - 1;
-    fell_back++;
-    return (whole_root(n) + 1) / 2;
-}
-
-static uint64_t root_bits(uint64_t b)
-{
-    uint64_t x = exponent(b), n = paired(significand(b), x);
-    return (x + 969) / 2 * one + half(n, one + guess(b) % one);
-}
-
-static uint64_t school_bits(uint64_t b)
-{
-    uint64_t x = exponent(b), n = paired(significand(b), x);
-    return (x + 969) / 2 * one + (whole_root(n) + 1) / 2;
-}
-
-/* What `root` does around the bits, with one way or the other inside. */
-static double root_by(double x, uint64_t (*bits)(uint64_t))
-{
-    uint64_t b = to_bits(x);
-    if (x != x || b > UINT64_C(0x8000000000000000))
-        return 0.0 / 0.0;
-    if (b == 0 || b == UINT64_C(0x8000000000000000) || b >= infinity)
-        return x;
-    return from_bits(bits(b));
-}
-
-static double guessed(double x) { return root_by(x, root_bits); }
-static double school(double x) { return root_by(x, school_bits); }
-static double own(double x) { return __builtin_sqrt(x); }
+/* Called as the others are. */
+__attribute__((noinline)) static double own_root(double x) { return __builtin_sqrt(x); }
 
 /* ---- against the processor's */
 
@@ -123,16 +45,15 @@ static uint64_t next(void)
 
 static int same(double x, double y) { return x != x ? y != y : to_bits(x) == to_bits(y); }
 
-/* Numbers by their bits, drawn by `draw`: how many differ either way. */
+/* Numbers by their bits, drawn by `draw`: how many differ in any way. */
 static unsigned long hold(const char *what, unsigned long count, uint64_t (*draw)(void))
 {
     unsigned long i, wrong = 0;
-    fell_back = 0;
     for (i = 0; i < count; i++) {
-        double x = from_bits(draw());
-        wrong += !same(guessed(x), own(x)) || !same(school(x), own(x));
+        double x = from_bits(draw()), y = own_root(x);
+        wrong += !same(leaves_root(x), y) || !same(former_root(x), y) || !same(factor_root(x), y);
     }
-    printf("%s: %lu numbers, %lu differ from the processor's root, %lu needed the school method\n", what, count, wrong, fell_back);
+    printf("%s: %lu numbers, %lu differ from the processor's root\n", what, count, wrong);
     return wrong;
 }
 
@@ -150,8 +71,8 @@ static uint64_t near_square(void)
 
 /* ---- times */
 
-enum { NUMBERS = 4096, RUNS = 201, TURNS = 20 };
-static double numbers[NUMBERS];
+enum { NUMBERS = 4096, RUNS = 201 };
+static uint64_t numbers[NUMBERS];
 
 static double now(void)
 {
@@ -166,45 +87,57 @@ static int ascending(const void *x, const void *y)
     return (a > b) - (a < b);
 }
 
-/* The median over runs, in nanoseconds a root; no root waits for another. The numbers count as new in each turn, so that no compiler
-   takes a root once for all of them. */
-#define MEDIAN(to, root) \
-    do { \
-        static double took[RUNS]; \
-        double from; \
-        int run, turn, i; \
-        for (run = 0; run < RUNS; run++) { \
-            from = now(); \
-            for (turn = 0; turn < TURNS; turn++) { \
-                __asm__ volatile("" : : "r"(numbers) : "memory"); \
-                for (i = 0; i < NUMBERS; i++) \
-                    seen += to_bits(root(numbers[i])); \
-            } \
-            took[run] = (now() - from) / TURNS / NUMBERS; \
-        } \
-        qsort(took, RUNS, sizeof took[0], ascending); \
-        to = took[RUNS / 2]; \
-    } while (0)
+static volatile uint64_t kept;
+
+/* One after the other: the last bit of a number is changed by that of the root before it. */
+static void waiting(double (*root)(double))
+{
+    uint64_t last = 0;
+    int i;
+    for (i = 0; i < NUMBERS; i++)
+        last = to_bits(root(from_bits(numbers[i] ^ (last & 1))));
+    kept = last;
+}
+
+static void apart(double (*root)(double))
+{
+    uint64_t seen = 0;
+    int i;
+    for (i = 0; i < NUMBERS; i++)
+        seen += to_bits(root(from_bits(numbers[i])));
+    kept = seen;
+}
+
+/* The median over runs, in nanoseconds a root. */
+static double median(void (*all)(double (*)(double)), double (*root)(double))
+{
+    static double took[RUNS];
+    int run;
+    for (run = 0; run < RUNS; run++) {
+        double from = now();
+        all(root);
+        took[run] = (now() - from) / NUMBERS;
+    }
+    qsort(took, RUNS, sizeof took[0], ascending);
+    return took[RUNS / 2];
+}
+
+static void time_of(const char *what, double (*root)(double)) { printf("| %s | %.1f | %.1f |\n", what, median(waiting, root), median(apart, root)); }
 
 int main(int words, char **word)
 {
     unsigned long count = words > 1 ? strtoul(word[1], NULL, 10) : 5000000, wrong = 0;
-    volatile uint64_t kept;
-    uint64_t seen = 0;
-    double by_guess, by_school, by_own;
     int i;
     wrong += hold("any bits", count, any);
     wrong += hold("normal numbers", count, normal);
     wrong += hold("subnormal numbers", count / 10, subnormal);
     wrong += hold("squares and beside them", count, near_square);
     for (i = 0; i < NUMBERS; i++)
-        numbers[i] = from_bits(one * 1000 + next() % (46 * one)); /* 2^-23 to 2^23 */
-    MEDIAN(by_own, own);
-    MEDIAN(by_guess, guessed);
-    MEDIAN(by_school, school);
-    kept = seen;
-    (void)kept;
-    printf("one root: %.1f ns by the guess that is tested, %.1f ns by the school method, %.1f ns by the processor's instruction\n",
-           by_guess, by_school, by_own);
+        numbers[i] = one * 1000 + next() % (46 * one); /* 2^-23 to 2^23 */
+    printf("\n| nanoseconds a root | waiting for each other | not |\n|---|---|---|\n");
+    time_of("the processor's instruction", own_root);
+    time_of("before: a guess, tested in whole numbers", former_root);
+    time_of("before, where the guess was not enough: the digit as a factor", factor_root);
+    time_of("the root: a select for each digit", leaves_root);
     return wrong != 0;
 }

@@ -1,6 +1,8 @@
 -- What the functions' proofs share, and the theorems about `root`: `Nearest`, `Neighbours`.
 mod Whole
 mod Fields
+mod School
+mod Pencil
 mod Patterns
 mod Middle
 mod Worked

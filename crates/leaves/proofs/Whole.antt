@@ -1,7 +1,7 @@
--- The whole root: `whole k n` is the largest s with s * s ≤ n, for an n below 4 ^ k, and there is one such number.
+-- The whole root: `whole k n` is the largest s with s * s ≤ n, for an n below 4 ^ k.
 use mathlib.Core.Path.{_≡_, sym, ap, _∙_}
 use Prim.Native.Nat.{ℕ, zero, suc, _+_, _*_, _/_, _^_, _≤_, _<_}
-use native.Mathlib.Nat.{le-trans, lt-of-le-of-lt, lt-of-not-le, not-le-of-lt, mul-le-mul-left, mul-le-mul-right, mul-comm, mul-assoc, mul-add, add-mul, mul-mul-mul-comm, pow-suc}
+use native.Mathlib.Nat.{le-trans, lt-of-not-le, not-le-of-lt, mul-le-mul-left, mul-le-mul-right, mul-comm, mul-assoc, mul-add, add-mul, mul-mul-mul-comm, pow-suc}
 use native.Mathlib.Omega.{arith}
 use mathlib.Core.Bool.{Bool, true, false, not, cond}
 use lib.Dec.{T, leb, leb→le, nleb→lt}
@@ -34,12 +34,6 @@ sq-mul w h = mul-mul-mul-comm w h w h
 abbrev pub Is : ℕ → ℕ → Type 0
 Is n s = (s * s ≤ n) × (n < (s + 1) * (s + 1))
 
-pub only : (n s t : ℕ) → Is n s → Is n t → s ≡ t
-only n s t p q =
-    let a : s < t + 1 = sq-lt-back s (t + 1) (lt-of-le-of-lt (p .0) (q .1)) in
-    let b : t < s + 1 = sq-lt-back t (s + 1) (lt-of-le-of-lt (q .0) (p .1)) in
-    omega arith
-
 next-is : (n s : ℕ) → Is (n / 4) s → Is n (next n s)
 next-is n s p = go (leb ((s * 2 + 1) * (s * 2 + 1)) n) (leb→le ((s * 2 + 1) * (s * 2 + 1)) n) (nleb→lt ((s * 2 + 1) * (s * 2 + 1)) n)
   where
@@ -61,16 +55,6 @@ whole-is zero n h = (omega arith, omega arith)
 whole-is (suc k) n h = next-is n (whole k (n / 4)) (whole-is k (n / 4) (quarter-lt n k h))
 
 -- ---- the whole root, halved and rounded up
-
--- a square by the two parts of its root, each of 27 binary digits
-pub sq-parts : (a c : ℕ) → (a * 0x400_0000 + c) * (a * 0x400_0000 + c) ≡ a * a * 2 ^ 52 + 2 * (a * c) * 0x400_0000 + c * c
-sq-parts a c =
-    let w : ℕ = 0x400_0000 in
-    let e : (a * w + c) * (a * w + c) ≡ a * w * (a * w) + a * w * c + (c * (a * w) + c * c) = add-mul (a * w) c (a * w + c) ∙ ap (λ (x : ℕ). x + c * (a * w + c)) (mul-add (a * w) (a * w) c) ∙ ap (λ (x : ℕ). a * w * (a * w) + a * w * c + x) (mul-add c (a * w) c) in
-    let f : a * w * (a * w) ≡ a * a * 2 ^ 52 = mul-assoc a w (a * w) ∙ ap (λ (x : ℕ). a * x) (mul-comm w (a * w) ∙ mul-assoc a w w) ∙ sym (mul-assoc a a (2 ^ 52)) in
-    let g : a * w * c ≡ a * c * w = mul-assoc a w c ∙ ap (λ (x : ℕ). a * x) (mul-comm w c) ∙ sym (mul-assoc a c w) in
-    let h : c * (a * w) ≡ a * c * w = mul-comm c (a * w) ∙ g in
-    omega arith
 
 pub halved : (n s q : ℕ) → Is (n * 2 ^ 54) s → q * q < n * 2 ^ 52 + q → n * 2 ^ 52 ≤ q * q + q → q ≡ (s + 1) / 2
 halved n s q p lo hi =

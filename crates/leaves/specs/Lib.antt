@@ -1,6 +1,7 @@
 -- The leaves: the square root, and what the routines share below the loops.
 pub mod Root
 pub mod Parts
+pub mod School
 pub mod Nearest
 pub mod Leaf
 pub mod Scan

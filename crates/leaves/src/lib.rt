@@ -1,14 +1,15 @@
 // The leaves: the square root of an `f64`, correctly rounded, from its bits and whole numbers; the
 // magnitude, the larger of two, the finite test and hypot; and the first number that is not finite.
 ghost use mathlib.Core.Path.{_≡_};
-ghost use mathlib.Core.Bool.{true};
-ghost use Prim.Native.Nat.{_+_, _*_, _^_, _≤_, _<_};
-ghost use lib.Dec.{T};
+ghost use mathlib.Core.Bool.{cond};
+ghost use Prim.Native.Nat.{_+_, _-_, _*_, _/_, _^_, _≤_, _<_};
+ghost use lib.Dec.{T, ltb};
 ghost use lib.Ieee.{nan};
 ghost use lib.ListN.{length};
 ghost use lib.Ieee.Positive.{positive};
-ghost use Rattle.leaves.specs.Root.{whole, root};
+ghost use Rattle.leaves.specs.Root.{root};
 ghost use Rattle.leaves.specs.Parts.{sig, exp, even, half, rootBits};
+ghost use Rattle.leaves.specs.School.{digits};
 ghost use Rattle.leaves.specs.Nearest.{Nearest};
 ghost use Rattle.leaves.specs.Leaf.{magnitude, larger, isFinite, hypotOf, hypot};
 ghost use Rattle.leaves.specs.Scan.{classOf, isBad, firstBad, lowerOf, firstBadLower, byRows};
@@ -32,29 +33,6 @@ pub fn not_a_number() -> f64
     ensures { λ r. ⌜ r ≡ nan ⌝ }
 {
     0.0 / 0.0
-}
-
-// The whole root of n * 2^54, by the school method: a turn brings down two binary digits and finds
-// one digit of the root. Fifty-four turns find them all. The digit is a number and not a branch, which
-// a processor would guess wrong every other time.
-fn whole_root(n: u64) -> u64
-    requires { ⌜ n < 2 ^ 54 ⌝ }
-    ensures { λ r. ⌜ r ≡ whole 54 (n * 2 ^ 54) ⌝ }
-{
-    let mut a = n << 10;
-    let mut s: u64 = 0;
-    let mut r: u64 = 0;
-    let mut i: u64 = 0;
-    while i < 54 {
-        let d = r * 4 + (a >> 62);
-        let t = s * 4 + 1;
-        a = a << 2;
-        let digit = (t <= d) as u64;
-        r = d - t * digit;
-        s = s * 2 + digit;
-        i += 1;
-    }
-    s
 }
 
 // The significand of the number with the bit pattern b, in 53 binary digits, and its exponent: the
@@ -90,63 +68,71 @@ fn paired(m: u64, x: u64) -> u64
     m
 }
 
-// One step of Newton's method towards 1 / root, for half the number.
-fn closer(half: f64, z: f64) -> f64 {
-    z * (1.5 - half * z * z)
+// The root so far, and what is left over of the digits brought down.
+struct Found {
+    s: u64,
+    r: u64,
 }
 
-// The bit pattern of y, or 0 for a NaN.
-fn pattern(y: f64) -> u64 {
-    if y == y {
-        return f64::to_bits(y);
-    }
-    0
-}
-
-// A guess at the bit pattern of the root. It promises nothing: `is_half` decides whether it is right.
-fn guess(b: u64) -> u64
-    requires { ⌜ b < 0x7ff0_0000_0000_0000 ⌝ }
+// What the next digit takes off when two digits more have come down: t where it goes into d with those two, else nothing. Here and below a select, no branch, which a
+// processor would guess wrong every other time.
+fn taken(d: u64, t: u64) -> u64
+    ensures { λ r. ⌜ r ≡ cond (ltb d (t / 4)) 0 t ⌝ }
 {
-    let x = f64::from_bits(b);
-    let half = x * 0.5;
-    let z0 = f64::from_bits(0x5fe6_eb50_c7b5_37a9 - b / 2);
-    let z = closer(half, closer(half, closer(half, z0)));
-    let y = x * z;
-    pattern(y + 0.5 * z * (x - y * y))
-}
-
-// Whether q is the root's significand, in whole numbers: q * q - q < n * 2^52 <= q * q + q. The
-// square is h * 2^52 + l.
-fn is_half(n: u64, q: u64) -> bool
-    requires { ⌜ (n < 2 ^ 54) × (q ≤ 2 ^ 53) ⌝ }
-    ensures { λ r. ⌜ (r ≡ true → q ≡ half n) ⌝ }
-{
-    let a = q / 0x400_0000;
-    let c = q % 0x400_0000;
-    let e = 2 * (a * c);
-    let h = a * a + e / 0x400_0000;
-    let l = e % 0x400_0000 * 0x400_0000 + c * c;
-    if n + 2 <= h + (l + 0x20_0000_0000_0000 - q) / 0x10_0000_0000_0000 {
-        return false;
+    if d < t / 4 {
+        return 0;
     }
-    n <= h + (l + q) / 0x10_0000_0000_0000
+    t
 }
 
-// The root's significand: q or one beside it where that is right, else by the school method.
-fn half(n: u64, q: u64) -> u64
-    requires { ⌜ (n < 2 ^ 54) × (0 < q) × (q < 2 ^ 53) ⌝ }
+// The next t: up where the digit is 1.
+fn next(d: u64, t: u64, up: u64) -> u64
+    requires { ⌜ (4 ≤ t) × (t < 2 ^ 62) ⌝ }
+    ensures { λ r. ⌜ r ≡ cond (ltb d (t / 4)) (t * 2 - 4) up ⌝ }
+{
+    if d < t / 4 {
+        return t * 2 - 4;
+    }
+    up
+}
+
+// The school method: k digits more of a root s with the remainder r, where the number goes on with the digits of n, the first two at its top, bits 61 and 60, and then
+// with zeros. d is what is left over, with two digits brought down behind it. A digit 1 takes off the root with 01 behind it, and t is that two places further up. A
+// turn tries the next digit, keeps the remainder, and brings down two digits. Nothing is kept waiting: d is moved up before it is known what is taken off, and up is
+// what t becomes where the digit is 1.
+fn digits(s: u64, r: u64, n: u64, k: u64) -> Found
+    requires { ⌜ (r ≤ s * 2) × (n < 2 ^ 62) × ((s + 1) * 2 ^ k ≤ 2 ^ 57) ⌝ }
+    ensures { λ w. ⌜ w ≡ digits k n (record { s = s; r = r }) ⌝ }
+{
+    let mut a = n % 0x1000_0000_0000_0000 * 4;
+    let mut d = r * 4 + (n >> 60);
+    let mut t = s * 16 + 4;
+    let mut up = s * 32 + 20;
+    let mut i: u64 = 0;
+    while i < k {
+        let off = taken(d, t);
+        t = next(d, t, up);
+        up = t * 2 + 12;
+        d = d * 4 + (a >> 60) - off;
+        a = a % 0x1000_0000_0000_0000 * 4;
+        i += 1;
+    }
+    Found {
+        s: t / 16,
+        r: d / 4,
+    }
+}
+
+// The whole number nearest to the root of n * 2^52. Halfway from s to s + 1 lies s * s + s and a quarter, so it is s + 1 where the remainder is above s.
+fn half(n: u64) -> u64
+    requires { ⌜ (0 < n) × (n < 2 ^ 54) ⌝ }
     ensures { λ r. ⌜ r ≡ half n ⌝ }
 {
-    if is_half(n, q) {
-        return q;
+    let w = digits(0, 0, n << 8, 53);
+    if w.r > w.s {
+        return w.s + 1;
     }
-    if is_half(n, q + 1) {
-        return q + 1;
-    }
-    if is_half(n, q - 1) {
-        return q - 1;
-    }
-    (whole_root(n) + 1) / 2
+    w.s
 }
 
 // The bit pattern of the root of the number with the bit pattern b, which is finite and above zero.
@@ -158,8 +144,7 @@ fn root_bits(b: u64) -> u64
     let m = significand(b);
     let x = exponent(b);
     let n = paired(m, x);
-    let q = half(n, 0x10_0000_0000_0000 + guess(b) % 0x10_0000_0000_0000);
-    (x + 969) / 2 * 0x10_0000_0000_0000 + q
+    (x + 969) / 2 * 0x10_0000_0000_0000 + half(n)
 }
 
 // The `f64` that is nearest to the root of x.

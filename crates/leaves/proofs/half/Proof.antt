@@ -1,71 +1,32 @@
 -- Generated from the answers file beside it by tools/prove/prove.py: edit that.
 -- `leaves::half` meets its contract.
-use mathlib.Core.Path.{_≡_, ap}
-use Prim.Native.Nat.{ℕ, _+_, _*_, _/_, _^_, _<_}
+use mathlib.Core.Path.{_≡_}
+use Prim.Native.Nat.{ℕ, _+_, _*_, _%_, _^_, _<_, _≤_}
 use native.Mathlib.Omega.{arith}
-use borrow.Author.Needs.{needs}
-use Rattle.leaves.specs.Root.{whole}
-use Rattle.leaves.specs.Parts.{half}
-use Rattle.leaves.proofs.Fields.{whole-lt}
+use native.Mathlib.Nat.{mod-eq-of-lt}
+use Rattle.leaves.specs.School.{digits}
+use Rattle.leaves.specs.declared.Found.{Found}
+use Rattle.leaves.proofs.School.{none, last, above, beside}
 use Rattle.leaves.proofs.half.Statement.{statement}
 use Rattle.leaves.proofs.half.Tie as tie
 
-s-lt : (n s : ℕ) → n < 2 ^ 54 → s ≡ whole 54 (n * 2 ^ 54) → s < 2 ^ 54
-s-lt n s h e = rw e (whole-lt n h)
+-- no digit falls out at the top
+all : (n : ℕ) (w : Found) → n < 2 ^ 54 → w ≡ digits 53 ((n * 2 ^ 8) % 2 ^ 64) none → (w .s * w .s + w .r ≡ n * 2 ^ 52) × (w .r ≤ w .s * 2) × (w .s < 2 ^ 53)
+all n w l e =
+    let f : (n * 2 ^ 8) % 2 ^ 64 ≡ n * 2 ^ 8 = mod-eq-of-lt (omega arith) in
+    last n w l (rw f at e)
 
-is-half-requires : tie.Need-is-half-requires
-is-half-requires c κs = search needs
-
-returns : tie.Need-returns
-returns c = c .before .is-half .ensures (c .if1 .taken)
-
-add-is-half : tie.Need-add-is-half
-add-is-half c = omega arith
-
-is-half-requires-2 : tie.Need-is-half-requires-2
-is-half-requires-2 c κs = search needs
+digits-requires : tie.Need-digits-requires
+digits-requires c κs = (omega arith, omega arith, omega arith)
 
 add-result : tie.Need-add-result
-add-result c = omega arith
+add-result c = omega (arith, all (c .before .before .before .before .args .n) _ (c .before .before .before .before .pre .1) (c .before .before .before .digits .ensures) .2)
+
+returns : tie.Need-returns
+returns c = above (c .before .before .before .before .args .n) _ _ (c .before .before .before .before .pre .1) (all _ _ (c .before .before .before .before .pre .1) (c .before .before .before .digits .ensures) .0) (all _ _ (c .before .before .before .before .pre .1) (c .before .before .before .digits .ensures) .1) (omega arith)
 
 returns-2 : tie.Need-returns-2
-returns-2 c = c .before .is-half2 .ensures (c .if2 .taken)
-
-sub-is-half : tie.Need-sub-is-half
-sub-is-half c = omega arith
-
-is-half-requires-3 : tie.Need-is-half-requires-3
-is-half-requires-3 c κs = search needs
-
-sub-result : tie.Need-sub-result
-sub-result c = omega arith
-
-returns-3 : tie.Need-returns-3
-returns-3 c = c .before .is-half3 .ensures (c .if3 .taken)
-
-whole-root-requires : tie.Need-whole-root-requires
-whole-root-requires c κs = search needs
-
-add-result-2 : tie.Need-add-result-2
-add-result-2 c = omega (arith, s-lt (c .before .before .before .before .before .before .before .args .n) (c .whole-root .result) (c .before .before .before .before .before .before .before .pre .0) (c .whole-root .ensures))
-
-returns-4 : tie.Need-returns-4
-returns-4 c = ap (λ (s : ℕ). (s + 1) / 2) (c .whole-root .ensures)
+returns-2 c = beside (c .before .before .before .args .n) _ _ (c .before .before .before .pre .0) (c .before .before .before .pre .1) (all _ _ (c .before .before .before .pre .1) (c .before .before .digits .ensures) .0) (omega arith)
 
 pub half-spec : {M : Type 1} → statement M
-half-spec =
-    tie.close
-    (tie.spec
-    is-half-requires
-    returns
-    add-is-half
-    is-half-requires-2
-    add-result
-    returns-2
-    sub-is-half
-    is-half-requires-3
-    sub-result
-    returns-3
-    whole-root-requires
-    add-result-2
-    returns-4)
+half-spec = tie.close (tie.spec digits-requires add-result returns returns-2)

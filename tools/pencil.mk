@@ -1,0 +1,5 @@
+# make pencil-check   crates/leaves/proofs/Pencil.antt claims the figures of docs/ROOT.md, and crates/vectors has both roots
+.PHONY: pencil-check
+
+pencil-check:
+	@tools/pencil --check
