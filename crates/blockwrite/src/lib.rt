@@ -12,9 +12,9 @@ use answers::refused;
 use block::dimensions;
 use block::head;
 use block::size;
-use octets::put_floats;
-use octets::put_three;
-use octets::put_words;
+use octetwrite::put_floats;
+use octetwrite::put_three;
+use octetwrite::put_words;
 
 // Refusals 22 and 23, or 0, for the first count of three parts, each by its kind and count.
 fn checked(

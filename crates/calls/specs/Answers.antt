@@ -10,7 +10,9 @@ use Rattle.answers.specs.Answers.{toleranceGood}
 use Rattle.answers.specs.Early.{Early, EarlyOr11}
 use Rattle.answers.specs.Index.{AtMark}
 use Rattle.answers.specs.declared.Answer.{Answer}
-use Rattle.solve.specs.Solve.{solution, inverted, solve, pseudoInverse}
+use Rattle.solution.specs.Solution.{solution}
+use Rattle.inverse.specs.Inverse.{inverted}
+use Rattle.solve.specs.Solve.{solve, pseudoInverse}
 use Rattle.solve.specs.Before.{solveBefore, pseudoInverseBefore}
 use Rattle.solve.specs.Tolerance.{solve-tolerance-zero, pseudo-inverse-tolerance-zero, solve-as-before, pseudo-inverse-as-before}
 use Rattle.solve.specs.Index as Solve

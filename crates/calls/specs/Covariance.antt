@@ -19,9 +19,9 @@ use Rattle.eigen.specs.Eigen.{eigen}
 use Rattle.exact.specs.Exact.{Outcome, Promised, Taken, Says, nothing, at-mark0, runs, reduced, list0}
 use Rattle.exact.specs.ExactLaws.{says, given-answer}
 use Rattle.covariance.specs.Covariance.{covariance}
-use Rattle.covariance.specs.Exact.{Exactly, FirstOver, Untouched}
-use Rattle.covariance.specs.ExactLaws.{covariance-sizes, covariance-long, covariance-symmetric, covariance-exact, covariance-finite-out, covariance-over-first}
-use Rattle.covariance.specs.One.{covariance-old-contents, covariance-index-zero}
+use Rattle.entries.specs.Exact.{Exactly, FirstOver, Untouched}
+use Rattle.entries.specs.ExactLaws.{covariance-sizes, covariance-long, covariance-symmetric, covariance-exact, covariance-finite-out, covariance-over-first}
+use Rattle.entries.specs.One.{covariance-old-contents, covariance-index-zero}
 
 -- done, stopped by a mark or by the limit: no refusal over sizes, lengths or what is read
 abbrev pub Ran : Answer → Type 0

@@ -11,19 +11,19 @@ use Rattle.answers.specs.Answers.{done, answered, least, decompositionLength}
 use Rattle.answers.specs.Early.{Early}
 use Rattle.answers.specs.Index.{AtMark}
 use Rattle.answers.specs.declared.Answer.{Answer}
-use Rattle.jacobi.specs.Told.{bad, used}
+use Rattle.plain.specs.Told.{bad, used}
 use Rattle.svd.specs.Svd.{svd}
 use Rattle.row.specs.Row.{rowSpan, partOf}
-use Rattle.svd.specs.Document.{plainWork}
-use Rattle.svd.specs.Exact.{Outcome, Promised, Taken, Done, Halted, Broken2, orderOf, uCell, vtCell, uFactor, vFactor}
-use Rattle.svd.specs.ExactLaws.{svd-done-exactly, svd-limit-exactly, svd-mark1-exactly, svd-mark2-exactly}
-use Rattle.svd.specs.Promise.{svd-descends}
-use Rattle.svd.specs.Limit.{svd-limit-raised}
-use Rattle.svd.specs.Out.{svd-cells-u, svd-cells-vt, vt-row-cells, svd-finite-out}
-use Rattle.svd.specs.Flags.{svd-flags-numbers, svd-flags-values, svd-flags-u, svd-flags-vt}
-use Rattle.svd.specs.Old.{svd-old-contents}
-use Rattle.svd.specs.Index.{Points}
-use Rattle.svd.specs.IndexLaws.{svd-index-points, svd-index-zero}
+use Rattle.plain.specs.Document.{plainWork}
+use Rattle.plain.specs.Exact.{Outcome, Promised, Taken, Done, Halted, Broken2, orderOf, uCell, vtCell, uFactor, vFactor}
+use Rattle.plain.specs.ExactLaws.{svd-done-exactly, svd-limit-exactly, svd-mark1-exactly, svd-mark2-exactly}
+use Rattle.plain.specs.Promise.{svd-descends}
+use Rattle.plain.specs.Limit.{svd-limit-raised}
+use Rattle.plain.specs.Out.{svd-cells-u, svd-cells-vt, vt-row-cells, svd-finite-out}
+use Rattle.plain.specs.Flags.{svd-flags-numbers, svd-flags-values, svd-flags-u, svd-flags-vt}
+use Rattle.plain.specs.Old.{svd-old-contents}
+use Rattle.plain.specs.Index.{Points}
+use Rattle.plain.specs.IndexLaws.{svd-index-points, svd-index-zero}
 
 -- each number exactly where 01 gives it
 module _ (m n u vt limit : ℕ) (matrix work result : Vec) (x : Outcome) (p : Promised m n u vt limit matrix work result x) (f : Taken m n u vt limit matrix work result) where

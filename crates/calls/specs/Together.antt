@@ -18,12 +18,14 @@ use Rattle.answers.specs.Answers.{answered, done, refused, emptied, marked, tol
 use Rattle.answers.specs.OutcomeLaws.{present-is}
 use Rattle.answers.specs.ToleranceLaws.{fitting-11, fitting-lengths}
 use Rattle.answers.specs.declared.Answer.{Answer}
-use Rattle.svd.specs.Exact.{Outcome, Promised, Taken}
-use Rattle.svd.specs.ExactLaws.{taken-of}
-use Rattle.svd.specs.Out.{svd-long, svd-finite-out}
+use Rattle.plain.specs.Exact.{Outcome, Promised, Taken}
+use Rattle.plain.specs.ExactLaws.{taken-of}
+use Rattle.plain.specs.Out.{svd-long, svd-finite-out}
 use Rattle.svd.specs.Svd.{svd}
 use Rattle.solve.specs.Checked.{solve-checks-5, solve-checks-last, inverse-checks-last}
-use Rattle.solve.specs.Solve.{solveChecks, inverseChecks, looked, solution, inverted, solve, pseudoInverse}
+use Rattle.solve.specs.Solve.{solveChecks, inverseChecks, looked, solve, pseudoInverse}
+use Rattle.solution.specs.Solution.{solution}
+use Rattle.inverse.specs.Inverse.{inverted}
 
 -- done, or refused by mark 2 with the index i and the class c: a value is too small to divide by
 abbrev pub Ends : Answer → Type 0

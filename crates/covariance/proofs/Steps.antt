@@ -25,8 +25,9 @@ use Rattle.grid.specs.TableLaws.{at-table, table-more, table-done, row-end}
 use Rattle.answers.specs.Answers.{refused, done, emptied, lengths}
 use Rattle.answers.specs.OutcomeLaws.{lengths-right}
 use Rattle.answers.specs.declared.Answer.{Answer}
-use Rattle.covariance.specs.Range.{held}
-use Rattle.covariance.specs.Covariance.{band, products, whole, cellAt, over, firstOver, matrixOf, computed, covChecks}
+use Rattle.sums.specs.Range.{held}
+use Rattle.covariance.specs.Covariance.{band, whole, cellAt, firstOver, matrixOf, computed, covChecks}
+use Rattle.sums.specs.Sums.{products, over}
 use Rattle.covariance.specs.Checked.{checked}
 use Rattle.covariance.specs.Stored.{stored, Above}
 use Rattle.covariance.specs.Swap.{whole-swap, cell-is}

@@ -1,32 +1,21 @@
 -- The matrix over whole numbers with a sign: an entry, the first that is over 2^53, and the outcome for every input. Definitions only.
-use mathlib.Core.Bool.{Bool, cond, _||_}
+use mathlib.Core.Bool.{cond, _||_}
 use mathlib.Core.List.{List}
-use Prim.Native.Nat.{ℕ, _+_, _*_, _/_, _%_}
+use Prim.Native.Nat.{ℕ, _*_, _/_, _%_}
 use lib.Dec.{ltb}
-use lib.IntN.{ℤ, pos, natAbs, _+ℤ_, _-ℤ_, _*ℤ_}
-use lib.Ieee.{Float, binary64, ofInt}
-use lib.ListN.{length, getD, take, drop}
-use Rattle.grid.specs.Loop.{upto, first}
+use lib.IntN.{ℤ, pos, _-ℤ_, _*ℤ_}
+use lib.Ieee.{binary64, ofInt}
+use lib.ListN.{length, take, drop}
+use Rattle.grid.specs.Loop.{first}
 use Rattle.grid.specs.Real.{Vec}
 use Rattle.grid.specs.Table.{table}
 use Rattle.answers.specs.Answers.{done, refused, passed, emptied, lengths}
 use Rattle.answers.specs.declared.Answer.{Answer}
+use Rattle.sums.specs.Sums.{total, products, over}
 
 -- band x, of N samples a band
 abbrev pub band : List ℤ → ℕ → ℕ → List ℤ
 band samples N x = take N (drop (x * N) samples)
-
--- sample k of a band
-abbrev pub sampleAt : List ℤ → ℕ → ℤ
-sampleAt a k = getD a k (pos 0)
-
--- the sum of a band
-unfoldable pub total : ℕ → List ℤ → ℤ
-total N a = upto (λ k s. s +ℤ sampleAt a k) 0 N (pos 0)
-
--- the sum of the products of two bands
-unfoldable pub products : ℕ → List ℤ → List ℤ → ℤ
-products N a b = upto (λ k s. s +ℤ sampleAt a k *ℤ sampleAt b k) 0 N (pos 0)
 
 -- the entry of bands x and y
 unfoldable pub whole : List ℤ → ℕ → ℕ → ℕ → ℤ
@@ -38,10 +27,6 @@ whole samples N x y =
 -- entry k of n by n, row by row
 abbrev pub cellAt : ℕ → ℕ → List ℤ → ℕ → ℤ
 cellAt n N samples k = whole samples N (k / n) (k % n)
-
--- its magnitude is over 2^53
-unfoldable pub over : ℤ → Bool
-over z = ltb 0x20_0000_0000_0000 (natAbs z)
 
 -- the first entry over 2^53; n * n where there is none
 unfoldable pub firstOver : ℕ → ℕ → List ℤ → ℕ

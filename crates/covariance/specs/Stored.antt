@@ -14,8 +14,9 @@ use Rattle.grid.specs.Real.{Vec}
 use Rattle.grid.specs.Cell.{entry, putEntry}
 use Rattle.answers.specs.Answers.{done, refused, emptied}
 use Rattle.answers.specs.declared.Answer.{Answer}
-use Rattle.covariance.specs.Range.{Range, held, held-is}
-use Rattle.covariance.specs.Covariance.{band, total, whole, over}
+use Rattle.sums.specs.Range.{Range, held, held-is}
+use Rattle.covariance.specs.Covariance.{band, whole}
+use Rattle.sums.specs.Sums.{total, over}
 
 -- place j has the sum of band j
 pub record Known (N : ℕ) (samples sums : List ℤ) (j : ℕ) : Type 0 where

@@ -5,7 +5,8 @@ use Prim.Native.Nat.{ℕ, _+_, _*_, _<_}
 use lib.IntN.{ℤ, pos, _+ℤ_, _-ℤ_, _*ℤ_, *ℤ-comm}
 use Rattle.grid.specs.LoopLaws.{upto-same}
 use Rattle.grid.specs.CellLaws.{place-row, place-column}
-use Rattle.covariance.specs.Covariance.{band, sampleAt, total, products, whole, cellAt}
+use Rattle.covariance.specs.Covariance.{band, whole, cellAt}
+use Rattle.sums.specs.Sums.{sampleAt, total, products}
 
 products-swap : (N : ℕ) (a b : List ℤ) → products N a b ≡ products N b a
 unfolding products

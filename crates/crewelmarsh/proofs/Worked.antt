@@ -19,10 +19,16 @@ use Rattle.pass.specs.Pass as pa
 use Rattle.ql.specs.Ql as ql
 use Rattle.eigen.specs.Eigen as ei
 use Rattle.sweep.specs.Sweep as sw
+use Rattle.values.specs.Values as va
 use Rattle.jacobi.specs.Jacobi as ja
-use Rattle.svd.specs.Order as so
+use Rattle.order.specs.Order as so
+use Rattle.sorted.specs.Result as re
 use Rattle.svd.specs.Svd as sv
+use Rattle.solution.specs.Solution as sn
+use Rattle.inverse.specs.Inverse as iv
 use Rattle.solve.specs.Solve as sl
+use Rattle.gram.specs.Gram as gr
+use Rattle.unit.specs.Unit as un
 use Rattle.qr.specs.Qr as qr
 
 -- one call by its inputs, and what 01 says of it
@@ -63,14 +69,14 @@ ones n = replicate n one64
 
 -- a call gives these numbers: (four numbers, work, result)
 unfoldable given : Row → List ℕ
-unfolding ofBits toBits number bits of-bits numbers ones add sub mul div neg lt le eq ne lo.seek lo.first lo.times lo.upto lo.down lo.rounds lo.drops lo.fall ta.table ta.rows ro.whole ro.rootOf ro.root le.magnitude le.larger le.isFinite le.hypotOf le.hypot sc.classOf sc.scan sc.placeOf sc.lowerOf sc.firstBadLower sc.byRows an.limitGood an.toleranceGood an.lengths an.fitting an.least an.present an.decompositionLength tr.scaleOf tr.skipRow tr.overScale tr.clear tr.against tr.generate tr.similarColumn tr.similarity tr.overH tr.lessen tr.updateColumn tr.updates tr.reflect tr.skip tr.reduce tr.householder tr.reduction tr.columnOver tr.dot tr.takeOff tr.turnColumns tr.clearColumn tr.apply tr.accumulate tr.accumulation tr.copyLast tr.moveLast tr.tred2 pa.pythag pa.signed pa.shift pa.lessened pa.rotated pa.spin pa.spins pa.landed pa.transformed pa.mark1 pa.settled pa.verdict pa.pass ql.movedUp ql.split ql.opened ql.iterated ql.closed ql.stage ql.turn ql.run ql.leastFrom ql.swapped ql.sortStep ql.sorted ql.mark2 ql.finished ql.tql2 ei.copyRow ei.columns ei.mirrorRow ei.rows ei.mark0 ei.afterTred ei.decomposed ei.given ei.entered ei.eigen sw.gram sw.skipped sw.rotationOf sw.turned sw.pairDone sw.pairsOf sw.sweep ja.factorsBad ja.verdict ja.swept ja.sweeps ja.normSq ja.divided ja.normalStep ja.normalised ja.allBad ja.finished ja.jacobi so.rank so.noted so.order sv.longest sv.workLength sv.source sv.columnLoaded sv.matrixLoaded sv.eyed sv.loaded sv.columnOut sv.factorOut sv.sortedOut sv.checks sv.ran sv.svd sl.columnSum sl.coefficient sl.solution sl.inverse sl.pinvSum sl.inverted sl.solveChecks sl.inverseChecks sl.looked sl.solve sl.pseudoInverse qr.dot qr.lessened qr.pass qr.passes qr.norm qr.over qr.normalised qr.putColumn qr.finished qr.column qr.columns qr.checks qr.qrQ
+unfolding ofBits toBits number bits of-bits numbers ones add sub mul div neg lt le eq ne lo.seek lo.first lo.times lo.upto lo.down lo.rounds lo.drops lo.fall ta.table ta.rows ro.whole ro.rootOf ro.root le.magnitude le.larger le.isFinite le.hypotOf le.hypot sc.classOf sc.scan sc.placeOf sc.lowerOf sc.firstBadLower sc.byRows an.limitGood an.toleranceGood an.lengths an.fitting an.least an.present an.decompositionLength tr.scaleOf tr.skipRow tr.overScale tr.clear tr.against tr.generate tr.similarColumn tr.similarity tr.overH tr.lessen tr.updateColumn tr.updates tr.reflect tr.skip tr.reduce tr.householder tr.reduction tr.columnOver tr.dot tr.takeOff tr.turnColumns tr.clearColumn tr.apply tr.accumulate tr.accumulation tr.copyLast tr.moveLast tr.tred2 pa.pythag pa.signed pa.shift pa.lessened pa.rotated pa.spin pa.spins pa.landed pa.transformed pa.mark1 pa.settled pa.verdict pa.pass ql.movedUp ql.split ql.opened ql.iterated ql.closed ql.stage ql.turn ql.run ql.leastFrom ql.swapped ql.sortStep ql.sorted ql.mark2 ql.finished ql.tql2 ei.copyRow ei.columns ei.mirrorRow ei.rows ei.mark0 ei.afterTred ei.decomposed ei.given ei.entered ei.eigen sw.gram sw.skipped sw.rotationOf sw.turned sw.pairDone sw.pairsOf sw.sweep va.factorsBad va.normSq va.divided va.normalStep va.normalised va.allBad ja.verdict ja.swept ja.sweeps ja.finished ja.jacobi so.rank so.noted so.order re.longest re.workLength re.columnOut re.factorOut re.sortedOut sv.source sv.columnLoaded sv.matrixLoaded sv.eyed sv.loaded sv.checks sv.ran sv.svd sn.columnSum sn.coefficient sn.solution iv.inverse iv.pinvSum iv.inverted sl.solveChecks sl.inverseChecks sl.looked sl.solve sl.pseudoInverse gr.dot gr.lessened gr.pass gr.passes gr.norm un.over un.normalised un.putColumn un.finished qr.column qr.columns qr.checks qr.qrQ
 given (root x r) = toBits binary64 (ro.root (number x)) ∷ []
 given (hypot x y r) = toBits binary64 (le.hypot (number x) (number y)) ∷ []
 given (eigen n matrix answer place index count result) =
     let x = ei.eigen n 60 (of-bits matrix) (ones n) (ones (n + n * n)) in
     numbers (x .0) ++ bits (x .1) ++ bits (x .2)
 given (svd m n matrix count result) =
-    let x = sv.svd m n 1 1 60 (of-bits matrix) (ones (sv.workLength m n)) (ones (length result)) in
+    let x = sv.svd m n 1 1 60 (of-bits matrix) (ones (re.workLength m n)) (ones (length result)) in
     numbers (x .0) ++ bits (x .1) ++ bits (x .2)
 given (solve m n tolerance decomposition right k answer) =
     let x = sl.solve m n 1 1 (number tolerance) (of-bits decomposition) (of-bits right) (ones n) in
@@ -84,11 +90,11 @@ given (qrQ m k matrix answer) =
 
 -- what it should give
 unfoldable wanted : Row → List ℕ
-unfolding sv.workLength sv.longest an.least
+unfolding re.workLength re.longest an.least
 wanted (root x r) = r ∷ []
 wanted (hypot x y r) = r ∷ []
 wanted (eigen n matrix answer place index count result) = (answer ∷ place ∷ index ∷ count ∷ []) ++ replicate n 0 ++ result
-wanted (svd m n matrix count result) = (0 ∷ 0 ∷ 0 ∷ count ∷ []) ++ replicate (sv.workLength m n) 0 ++ result
+wanted (svd m n matrix count result) = (0 ∷ 0 ∷ 0 ∷ count ∷ []) ++ replicate (re.workLength m n) 0 ++ result
 wanted (solve m n tolerance decomposition right k answer) = (k ∷ 0 ∷ 0 ∷ 0 ∷ []) ++ answer
 wanted (pseudoInverse m n tolerance decomposition k answer) = (k ∷ 0 ∷ 0 ∷ 0 ∷ []) ++ answer
 wanted (qrQ m k matrix answer) = (0 ∷ 0 ∷ 0 ∷ 0 ∷ []) ++ answer

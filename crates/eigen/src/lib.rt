@@ -28,7 +28,7 @@ use leaves::first_bad_lower;
 use leaves::is_bad;
 use pass::mark1;
 use ql::tql2;
-use tred::tred2;
+use tred2::tred2;
 
 // Row i of the matrix a into row i of v.
 fn copy_row(n: usize, i: usize, a: &[f64], v: &mut [f64])

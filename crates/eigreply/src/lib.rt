@@ -19,7 +19,7 @@ fn solve(
     ensures { λ r. ⌜ (r, now (out .exit)) ≡ written (shownOf n (eigen n limit (now (matrix .entry)) (now (work .entry)) (now (result .entry)))) (now (out .entry)) ⌝ }
 {
     let a = eigen::symmetric_eigen(n, limit, matrix, work, result);
-    text::write(a.answer, a.place, a.index, a.count, n, result, out)
+    textwrite::write(a.answer, a.place, a.index, a.count, n, result, out)
 }
 
 // The same for the matrix that stands at the front of the numbers, with a work array and a result of our own.
@@ -46,9 +46,9 @@ pub fn reply(t: &[u8], out: &mut [u8]) -> usize
     ensures { λ r. ⌜ (r, now (out .exit)) ≡ written (reply (now (t .entry))) (now (out .entry)) ⌝ }
 {
     let mut numbers = [0.0f64; 1024];
-    let x = text::read(t, &mut numbers);
+    let x = textread::read(t, &mut numbers);
     match x {
         Reading::Good { n, limit } => solve_front(n, limit, &numbers, out),
-        Reading::Bad => text::write_bad(out),
+        Reading::Bad => textwrite::write_bad(out),
     }
 }

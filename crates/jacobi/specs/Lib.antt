@@ -1,7 +1,3 @@
 -- One-sided Jacobi: the steps of `jacobi_svd_tall`, its run with marks and limit, and the laws of the run.
 pub mod Jacobi
-pub mod Document
 pub mod Run
-pub mod Kept
-pub mod Told
-pub mod ToldLaws

@@ -7,7 +7,8 @@ use Rattle.grid.specs.Real.{Vec}
 use Rattle.leaves.specs.Finite.{First}
 use Rattle.answers.specs.Answers.{done}
 use Rattle.answers.specs.declared.Answer.{Answer}
-use Rattle.qr.specs.Qr.{columnOf, passes, norm, columnStep}
+use Rattle.gram.specs.Gram.{columnOf, passes, norm}
+use Rattle.qr.specs.Qr.{columnStep}
 
 -- q as it stands before column j, and the norm of that column
 abbrev pub before : ℕ → ℕ → Vec → ℕ → Answer × Vec

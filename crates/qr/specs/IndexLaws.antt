@@ -20,7 +20,9 @@ use Rattle.answers.specs.Index.{AtMark, Indexed}
 use Rattle.answers.specs.IndexLaws.{lengths-index, refuse-index, below, pointed, unless-indexed, by-check}
 use Rattle.answers.specs.OutcomeLaws.{lengths-few, refuse-few}
 use Rattle.answers.specs.declared.Answer.{Answer}
-use Rattle.qr.specs.Qr.{columnOf, passes, norm, normalised, putColumn, finished, column, columnStep, columns, checks, qrQ}
+use Rattle.gram.specs.Gram.{columnOf, passes, norm}
+use Rattle.unit.specs.Unit.{normalised, putColumn, finished}
+use Rattle.qr.specs.Qr.{column, columnStep, columns, checks, qrQ}
 use Rattle.qr.specs.Out.{class-some}
 use Rattle.qr.specs.Index.{before, normAt, Points}
 

@@ -25,7 +25,9 @@ use Rattle.leaves.specs.declared.Bad.the-variants.{At, Nowhere}
 use Rattle.answers.specs.Answers.{answered, done, passed, emptied, unlessBad}
 use Rattle.answers.specs.OutcomeLaws.{Good, refuses, check-good}
 use Rattle.answers.specs.declared.Answer.{Answer}
-use Rattle.qr.specs.Qr.{columnOf, dotStep, dot, lessStep, lessened, passStep, pass, passes, norm, overStep, over, normalised, putStep, putColumn, finished, column, columnStep, columns, checks, qrQ}
+use Rattle.gram.specs.Gram.{columnOf, dotStep, dot, lessStep, lessened, passStep, pass, passes, norm}
+use Rattle.unit.specs.Unit.{overStep, over, normalised, putStep, putColumn, finished}
+use Rattle.qr.specs.Qr.{column, columnStep, columns, checks, qrQ}
 use Rattle.qr.specs.Quotient.{add-finite, root-finite, quotient}
 
 -- ---- lists

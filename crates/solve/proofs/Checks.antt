@@ -1,18 +1,17 @@
 -- What the checks of `solve` and `pseudo_inverse` leave: where they refuse nothing, sizes and lengths are right.
 use mathlib.Core.Path.{_≡_, refl, sym, ap, _∙_}
 use mathlib.Core.Bool.{Bool, true, false, cond, not, _||_}
-use Prim.Native.Nat.{ℕ, _+_, _*_, _≤_}
+use Prim.Native.Nat.{ℕ, _*_, _≤_}
 use native.Mathlib.Decide.{ℕ-discrete}
 use native.Mathlib.Omega.{arith}
 use borrow.Author.Tests.{ltb-false, le-ltb, eqb-false}
 use lib.Dec.{ltb, eqb}
 use lib.Ieee.{Float}
-use Rattle.answers.specs.Answers.{refused, done, fitting, least, present, decompositionLength}
-use Rattle.answers.specs.AnswersLaws.{least-le, product-le}
+use Rattle.answers.specs.Answers.{refused, done, fitting, present, decompositionLength}
 use Rattle.answers.specs.ToleranceLaws.{fitting-right}
 use Rattle.answers.specs.declared.Answer.{Answer}
 use Rattle.solve.specs.Solve.{parts, solveChecks, inverseChecks}
-use Rattle.solve.specs.SolveLaws.{Sized}
+use Rattle.solution.specs.SolutionLaws.{Sized}
 use Rattle.solve.specs.Checked.{solve-checks-5, solve-checks-last, inverse-checks-last}
 
 -- the answer is that of the checks
@@ -86,16 +85,3 @@ module _ (m n u vt : ℕ) (tol : Float) (d x : ℕ) where
   inverse-sized h =
       let t = there m n u vt (fitting tol d (decompositionLength m n u vt) x (n * m)) refl h in
       fitting-sized m n u vt tol d x (n * m) t (told (inverse-checks-last m n u vt tol d x (t .few) (t .narrow) (eqb-false u 0 (t .has-u)) (eqb-false vt 0 (t .has-vt))) h)
-
--- ---- the parts of a decomposition of length l
-
-pub record Split (m n l r : ℕ) : Type 0 where
-  pub small : r ≤ 256
-  pub u-small : m * r ≤ 65536
-  pub vt-small : r * n ≤ 65536
-  pub all : l ≡ r + m * r + r * n
-
-pub split : (m n l r : ℕ) → Sized m n l → r ≡ least m n → Split m n l r
-split m n l r s e =
-    let k : r ≤ 256 = rw e (least-le m n 256 (s .few) (s .narrow)) in
-    record { small = k; u-small = product-le m r (s .few) k; vt-small = product-le r n k (s .narrow); all = rw e (s .whole) }

@@ -1,3 +1,2 @@
--- What the checks of `solve` and `pseudo_inverse` leave, and the sums.
+-- What the checks of `solve` and `pseudo_inverse` leave.
 pub mod Checks
-pub mod Sums

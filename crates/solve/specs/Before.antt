@@ -9,7 +9,9 @@ use Rattle.grid.specs.Real.{Vec}
 use Rattle.leaves.specs.Scan.{firstBad}
 use Rattle.answers.specs.Answers.{refused, passed, lengths, decompositionLength, unlessBad}
 use Rattle.answers.specs.declared.Answer.{Answer}
-use Rattle.solve.specs.Solve.{parts, looked, solution, inverted}
+use Rattle.solve.specs.Solve.{parts, looked}
+use Rattle.solution.specs.Solution.{solution}
+use Rattle.inverse.specs.Inverse.{inverted}
 
 abbrev pub solveBefore : ℕ → ℕ → ℕ → ℕ → Float → Vec → Vec → Vec → Answer × Vec
 solveBefore m n u vt tol d b x =

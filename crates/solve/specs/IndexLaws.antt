@@ -15,7 +15,9 @@ use Rattle.answers.specs.Answers.{done, emptied, marked}
 use Rattle.answers.specs.Index.{AtMark, Indexed}
 use Rattle.answers.specs.IndexLaws.{below, pointed, unless-indexed, by-unmarked}
 use Rattle.answers.specs.declared.Answer.{Answer}
-use Rattle.solve.specs.Solve.{looked, solution, inverted, solveChecks, inverseChecks, solve, pseudoInverse}
+use Rattle.solve.specs.Solve.{looked, solveChecks, inverseChecks, solve, pseudoInverse}
+use Rattle.solution.specs.Solution.{solution}
+use Rattle.inverse.specs.Inverse.{inverted}
 use Rattle.solve.specs.Index.{Points}
 use Rattle.solve.specs.Checked.{solve-checked, inverse-checked}
 

@@ -1,6 +1,5 @@
 -- What `solve` and `pseudo_inverse` come back with.
 pub mod Solve
-pub mod SolveLaws
 pub mod Checked
 pub mod One
 pub mod Out

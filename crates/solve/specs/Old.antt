@@ -11,7 +11,9 @@ use Rattle.answers.specs.Answers.{passed, unlessBad}
 use Rattle.answers.specs.Early.{EarlyOr11}
 use Rattle.answers.specs.OutcomeLaws.{same-bad, old-kept}
 use Rattle.answers.specs.declared.Answer.{Answer}
-use Rattle.solve.specs.Solve.{solveChecks, inverseChecks, looked, solution, inverted, solve, pseudoInverse}
+use Rattle.solve.specs.Solve.{solveChecks, inverseChecks, looked, solve, pseudoInverse}
+use Rattle.solution.specs.Solution.{solution}
+use Rattle.inverse.specs.Inverse.{inverted}
 use Rattle.solve.specs.Checked.{solve-checked, inverse-checked}
 
 pub solve-old-contents : (m n u vt : ℕ) (tol : Float) (d b x y : Vec) → length x ≡ length y → (EarlyOr11 (solve m n u vt tol d b x .0) → ⊥) → solve m n u vt tol d b x ≡ solve m n u vt tol d b y

@@ -17,7 +17,9 @@ use Rattle.leaves.specs.declared.Bad.the-variants.{At, Nowhere}
 use Rattle.answers.specs.Answers.{done, emptied, marked}
 use Rattle.answers.specs.OutcomeLaws.{Good, refuses, unless-good, check-good}
 use Rattle.answers.specs.declared.Answer.{Answer}
-use Rattle.solve.specs.Solve.{looked, solution, inverted, solveChecks, inverseChecks, solve, pseudoInverse}
+use Rattle.solve.specs.Solve.{looked, solveChecks, inverseChecks, solve, pseudoInverse}
+use Rattle.solution.specs.Solution.{solution}
+use Rattle.inverse.specs.Inverse.{inverted}
 
 looked-good : (n : ℕ) (x : Vec) → length x ≡ n → Good n (looked x)
 unfolding looked

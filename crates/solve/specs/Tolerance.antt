@@ -13,7 +13,9 @@ use Rattle.leaves.specs.Scan.{firstBad}
 use Rattle.answers.specs.Answers.{passed, toleranceGood, fitting, least, decompositionLength, unlessBad}
 use Rattle.answers.specs.ToleranceLaws.{fitting-lengths, zero-good, minus-zero-good, above-minus-zero}
 use Rattle.answers.specs.declared.Answer.{Answer}
-use Rattle.solve.specs.Solve.{valuesOf, uOf, vtOf, columnSum, coefficient, solution, inverse, pinvSum, inverted, solveChecks, inverseChecks, looked, solve, pseudoInverse}
+use Rattle.solution.specs.Solution.{valuesOf, uOf, vtOf, columnSum, coefficient, solution}
+use Rattle.inverse.specs.Inverse.{inverse, pinvSum, inverted}
+use Rattle.solve.specs.Solve.{solveChecks, inverseChecks, looked, solve, pseudoInverse}
 use Rattle.solve.specs.Before.{solveBefore, pseudoInverseBefore}
 
 -- ---- -0.0, which is neg zero64, and 0

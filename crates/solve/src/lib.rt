@@ -2,15 +2,14 @@
 // `Svd::solve` and `Svd::pseudo_inverse`).
 ghost use mathlib.Core.Path.{_≡_};
 ghost use mathlib.Core.List.{_++_};
-ghost use Prim.Native.Nat.{_+_, _*_, _^_, _<_, _≤_};
+ghost use Prim.Native.Nat.{_+_, _*_, _^_, _≤_};
 ghost use lib.ListN.{length};
-ghost use Rattle.grid.specs.Real.{at, _⊕_, _⊗_};
-ghost use Rattle.grid.specs.Cell.{entry};
-ghost use Rattle.grid.specs.Table.{table, rows};
-ghost use Rattle.answers.specs.Answers.{done, least, unlessBad};
+ghost use Rattle.answers.specs.Answers.{done, unlessBad};
 ghost use Rattle.leaves.specs.Scan.{firstBad};
-ghost use Rattle.solve.specs.Solve.{columnSum, coefficient, solution, inverse, pinvRow, inverted, parts, solveChecks, inverseChecks, looked, solve, pseudoInverse};
-ghost use Rattle.solve.specs.SolveLaws.{product, dot, Sized};
+ghost use Rattle.solution.specs.Solution.{solution};
+ghost use Rattle.inverse.specs.Inverse.{inverted};
+ghost use Rattle.solve.specs.Solve.{parts, solveChecks, inverseChecks, looked, solve, pseudoInverse};
+ghost use Rattle.solution.specs.SolutionLaws.{Sized};
 use answers::Answer;
 use answers::decomposition_length;
 use answers::done;
@@ -20,159 +19,12 @@ use answers::marked;
 use answers::refuse;
 use answers::refused;
 use grid::LARGEST;
-use grid::at1;
-use grid::entry;
-use grid::fill;
-use grid::put1;
+use inverse::inverted;
 use leaves::Bad;
 use leaves::behind;
 use leaves::first_bad;
 use leaves::is_bad;
-
-// Row i of a, by a number, is added to acc.
-fn add_row(rows: usize, cols: usize, a: &[f64], i: usize, by: f64, acc: &mut [f64])
-    requires { ⌜ (i < rows) × (length (now a) ≡ rows * cols) × (length (now acc) ≡ cols) ⌝ }
-    ensures { λ _. ⌜ now (acc .exit) ≡ table (λ j. at (now (acc .entry)) j ⊕ entry (now (a .entry)) cols i j ⊗ by) cols ⌝ }
-{
-    for j in 0..cols {
-        put1(acc, j, at1(acc, j) + entry(a, rows, cols, i, j) * by);
-    }
-}
-
-// Each column of a by v. The sums are worked out side by side, so that the walk is along the rows.
-fn column_sums(rows: usize, cols: usize, a: &[f64], v: &[f64], y: &mut [f64])
-    requires { ⌜ (length (now a) ≡ rows * cols) × (length (now v) ≡ rows) × (length (now y) ≡ cols) ⌝ }
-    ensures { λ _. ⌜ now (y .exit) ≡ table (columnSum rows cols (now (a .entry)) (now (v .entry))) cols ⌝ }
-{
-    fill(y);
-    for i in 0..rows {
-        add_row(rows, cols, a, i, at1(v, i), y);
-    }
-}
-
-// c[k] for the value sv. One that is not above the tolerance counts as zero.
-fn coefficient(tolerance: f64, sv: f64, acc: f64) -> f64
-    ensures { λ x. ⌜ x ≡ coefficient tolerance sv acc ⌝ }
-{
-    if sv > tolerance { acc / sv } else { 0.0 }
-}
-
-fn coefficients(r: usize, tolerance: f64, s: &[f64], c: &mut [f64])
-    requires { ⌜ (length (now s) ≡ r) × (length (now c) ≡ r) ⌝ }
-    ensures { λ _. ⌜ now (c .exit) ≡ table (λ k. coefficient tolerance (at (now (s .entry)) k) (at (now (c .entry)) k)) r ⌝ }
-{
-    for k in 0..r {
-        put1(c, k, coefficient(tolerance, at1(s, k), at1(c, k)));
-    }
-}
-
-// x = V * c with c = sigma^+ * U^T * b. The scratch c has room for r numbers.
-fn solution(
-    m: usize,
-    n: usize,
-    r: usize,
-    tolerance: f64,
-    d: &[f64],
-    b: &[f64],
-    c: &mut [f64],
-    x: &mut [f64],
-)
-    requires { ⌜ (r ≡ least m n) × Sized m n (length (now d)) × (length (now b) ≡ m) × (length (now c) ≡ r) × (length (now x) ≡ n) ⌝ }
-    ensures { λ _. ⌜ now (x .exit) ≡ solution m n tolerance (now (d .entry)) (now (b .entry)) ⌝ }
-{
-    let e = r + m * r;
-    column_sums(m, r, &d[r..e], b, c);
-    coefficients(r, tolerance, &d[..r], c);
-    column_sums(r, n, &d[e..], c, x);
-}
-
-// sinv[k] for the value sv.
-fn inverse(tolerance: f64, sv: f64) -> f64
-    ensures { λ x. ⌜ x ≡ inverse tolerance sv ⌝ }
-{
-    if sv > tolerance { 1.0 / sv } else { 0.0 }
-}
-
-// Column j of V^T by the inverse values.
-fn products(r: usize, n: usize, tolerance: f64, s: &[f64], vt: &[f64], j: usize, w: &mut [f64])
-    requires { ⌜ (j < n) × (length (now s) ≡ r) × (length (now vt) ≡ r * n) × (length (now w) ≡ r) ⌝ }
-    ensures { λ _. ⌜ now (w .exit) ≡ table (product n tolerance (now (s .entry)) (now (vt .entry)) j) r ⌝ }
-{
-    for k in 0..r {
-        put1(w, k, entry(vt, r, n, k, j) * inverse(tolerance, at1(s, k)));
-    }
-}
-
-// w times row i of U.
-fn dot(m: usize, r: usize, w: &[f64], u: &[f64], i: usize) -> f64
-    requires { ⌜ (i < m) × (length (now w) ≡ r) × (length (now u) ≡ m * r) ⌝ }
-    ensures { λ x. ⌜ x ≡ dot r (now (w .entry)) (now (u .entry)) i ⌝ }
-{
-    let mut acc = 0.0;
-    for k in 0..r {
-        acc = acc + at1(w, k) * entry(u, m, r, i, k);
-    }
-    acc
-}
-
-fn dots(m: usize, r: usize, w: &[f64], u: &[f64], x: &mut [f64])
-    requires { ⌜ (length (now w) ≡ r) × (length (now u) ≡ m * r) × (length (now x) ≡ m) ⌝ }
-    ensures { λ _. ⌜ now (x .exit) ≡ table (dot r (now (w .entry)) (now (u .entry))) m ⌝ }
-{
-    for i in 0..m {
-        put1(x, i, dot(m, r, w, u, i));
-    }
-}
-
-// Row j of the pseudo-inverse.
-fn pinv_row(
-    m: usize,
-    r: usize,
-    n: usize,
-    tolerance: f64,
-    s: &[f64],
-    u: &[f64],
-    vt: &[f64],
-    j: usize,
-    w: &mut [f64],
-    x: &mut [f64],
-)
-    requires { ⌜ (j < n) × (length (now s) ≡ r) × (length (now u) ≡ m * r) × (length (now vt) ≡ r * n) × (length (now w) ≡ r) × (length (now x) ≡ m) ⌝ }
-    ensures { λ _. ⌜ now (x .exit) ≡ pinvRow m r n tolerance (now (s .entry)) (now (u .entry)) (now (vt .entry)) j ⌝ }
-{
-    products(r, n, tolerance, s, vt, j, w);
-    dots(m, r, w, u, x);
-}
-
-fn pinv_rows(
-    m: usize,
-    r: usize,
-    n: usize,
-    tolerance: f64,
-    s: &[f64],
-    u: &[f64],
-    vt: &[f64],
-    w: &mut [f64],
-    x: &mut [f64],
-)
-    requires { ⌜ (length (now s) ≡ r) × (length (now u) ≡ m * r) × (length (now vt) ≡ r * n) × (length (now w) ≡ r) × (length (now x) ≡ n * m) ⌝ }
-    ensures { λ _. ⌜ now (x .exit) ≡ rows (pinvRow m r n tolerance (now (s .entry)) (now (u .entry)) (now (vt .entry))) n ⌝ }
-{
-    for j in 0..n {
-        let a = j * m;
-        let e = a + m;
-        pinv_row(m, r, n, tolerance, s, u, vt, j, w, &mut x[a..e]);
-    }
-}
-
-// A^+ = V * sigma^+ * U^T. The scratch w has room for r numbers.
-fn inverted(m: usize, n: usize, r: usize, tolerance: f64, d: &[f64], w: &mut [f64], x: &mut [f64])
-    requires { ⌜ (r ≡ least m n) × Sized m n (length (now d)) × (length (now w) ≡ r) × (length (now x) ≡ n * m) ⌝ }
-    ensures { λ _. ⌜ now (x .exit) ≡ inverted m n tolerance (now (d .entry)) ⌝ }
-{
-    let e = r + m * r;
-    pinv_rows(m, r, n, tolerance, &d[..r], &d[r..e], &d[e..], w, x);
-}
+use solution::solution;
 
 // Refusals 1, 3 and 4.
 fn parts(m: usize, n: usize, has_u: usize, has_vt: usize) -> Answer

@@ -1,37 +1,29 @@
 // The svd of a matrix: the checks, the work array, the sweeps and the sorted result.
 ghost use mathlib.Core.Path.{_≡_};
 ghost use mathlib.Core.Bool.{cond};
-ghost use Prim.Native.Nat.{ℕ, _+_, _*_, _≤_, _<_};
+ghost use Prim.Native.Nat.{_+_, _*_, _≤_, _<_};
 ghost use lib.Dec.{eqb};
 ghost use lib.ListN.{length};
-ghost use Rattle.grid.specs.Real.{at};
 ghost use Rattle.answers.specs.Answers.{least};
 ghost use Rattle.sweep.specs.Kept.{Sized};
-ghost use Rattle.svd.specs.Order.{ahead, one, rank, noted};
-ghost use Rattle.svd.specs.Svd.{longest, workLength, source, columnLoaded, matrixLoaded, eyed, columnOut, factorOut, offset, sortedOut, checks, ran, svd};
-ghost use Rattle.svd.specs.Known.{Checked, Out};
+ghost use Rattle.sorted.specs.Result.{longest, workLength, sortedOut};
+ghost use Rattle.svd.specs.Svd.{source, columnLoaded, matrixLoaded, eyed, checks, ran, svd};
+ghost use Rattle.sorted.specs.Known.{Checked};
 use answers::Answer;
 use answers::decomposition_length;
 use answers::least;
 use answers::lengths;
 use answers::limit_good;
-use answers::present;
 use answers::refusal7;
 use answers::refused;
 use grid::LARGEST;
-use grid::at1;
 use grid::entry;
 use grid::fill;
 use grid::put1;
 use jacobi::jacobi;
 use leaves::first_bad;
-
-// L, the larger of m and n.
-fn longest(m: usize, n: usize) -> usize
-    ensures { λ r. ⌜ r ≡ longest m n ⌝ }
-{
-    if m < n { n } else { m }
-}
+use sorted::longest;
+use sorted::sorted_out;
 
 fn work_length(m: usize, n: usize) -> usize
     requires { ⌜ (m ≤ 256) × (n ≤ 256) ⌝ }
@@ -104,100 +96,6 @@ fn load_eye(rows: usize, cols: usize, w: &mut [f64])
     for j in 0..cols {
         put1(w, rows * cols + j * cols + j, 1.0);
     }
-}
-
-// Whether column j comes before column k: its value is the greater, or neither is and j is the lower.
-fn ahead(w: &[f64], from: usize, j: usize, k: usize) -> usize
-    requires { ⌜ (from + j < length (now w)) × (from + k < length (now w)) ⌝ }
-    ensures { λ n. ⌜ n ≡ one (ahead (λ (i : ℕ). at (now (w .entry)) (from + i)) j k) ⌝ }
-{
-    let sj = at1(w, from + j);
-    let sk = at1(w, from + k);
-    if sk < sj {
-        return 1;
-    }
-    if sj < sk {
-        return 0;
-    }
-    if j < k { 1 } else { 0 }
-}
-
-// The place of column k: how many come before it.
-fn rank(w: &[f64], from: usize, r: usize, k: usize) -> usize
-    requires { ⌜ (k < r) × (from + r ≤ length (now w)) ⌝ }
-    ensures { λ n. ⌜ n ≡ rank (λ (i : ℕ). at (now (w .entry)) (from + i)) r k ⌝ }
-{
-    let mut n: usize = 0;
-    for j in 0..r {
-        n = n + ahead(w, from, j, k);
-    }
-    n
-}
-
-// Notes each column at its place.
-fn note(w: &[f64], from: usize, r: usize, o: &mut [usize; LARGEST])
-    requires { ⌜ (r ≤ 256) × (from + r ≤ length (now w)) ⌝ }
-    ensures { λ _. ⌜ now (o .exit) ≡ noted (λ (i : ℕ). at (now (w .entry)) (from + i)) r (now (o .entry)) ⌝ }
-{
-    for k in 0..r {
-        let p = rank(w, from, r, k);
-        o[p] = k;
-    }
-}
-
-// So many numbers of w go to every down-th number of the result.
-fn column_out(w: &[f64], from: usize, rows: usize, to: usize, down: usize, res: &mut [f64])
-    requires { ⌜ (from + rows ≤ length (now w)) × ((i : ℕ) → i < rows → to + i * down < length (now res)) ⌝ }
-    ensures { λ _. ⌜ now (res .exit) ≡ columnOut from rows to down (now (w .entry)) (now (res .entry)) ⌝ }
-{
-    for i in 0..rows {
-        put1(res, to + i * down, at1(w, from + i));
-    }
-}
-
-// The columns of a factor in their order.
-fn factor_out(
-    cols: usize,
-    w: &[f64],
-    from: usize,
-    rows: usize,
-    to: usize,
-    down: usize,
-    across: usize,
-    o: &[usize; LARGEST],
-    res: &mut [f64],
-)
-    requires { ⌜ Out cols from rows to down across (now w) (now o) (now res) ⌝ }
-    ensures { λ _. ⌜ now (res .exit) ≡ factorOut cols from rows to down across (now (w .entry)) (now (o .entry)) (now (res .entry)) ⌝ }
-{
-    for k in 0..cols {
-        let j = o[k];
-        column_out(w, from + j * rows, rows, to + k * across, down, res);
-    }
-}
-
-fn offset(b: bool, k: usize) -> usize
-    ensures { λ r. ⌜ r ≡ offset b k ⌝ }
-{
-    if b { k } else { 0 }
-}
-
-// The result where the run is done: the factor with L rows stands first in w.
-fn sorted_out(m: usize, n: usize, want_u: usize, want_vt: usize, w: &[f64], res: &mut [f64])
-    requires { ⌜ Checked m n «want_u» «want_vt» (now w) (now res) ⌝ }
-    ensures { λ _. ⌜ now (res .exit) ≡ sortedOut m n «want_u» «want_vt» (now (w .entry)) (now (res .entry)) ⌝ }
-{
-    let r = least(m, n);
-    let second = longest(m, n) * r;
-    let values = second + r * r;
-    let mut o = [0usize; LARGEST];
-    note(w, values, r, &mut o);
-    factor_out(r, w, values, 1, 0, 1, 1, &o, res);
-    let u_at = offset(m < n, second);
-    factor_out(present(want_u, r), w, u_at, m, r, r, 1, &o, res);
-    let v_at = offset(m >= n, second);
-    let to = r + present(want_u, m * r);
-    factor_out(present(want_vt, r), w, v_at, n, to, 1, n, &o, res);
 }
 
 fn hand_over(

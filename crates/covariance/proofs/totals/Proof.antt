@@ -6,7 +6,7 @@ use native.Mathlib.Omega.{arith}
 use lib.ListN.{length}
 use lib.ListN.{take, drop}
 use Rattle.grid.specs.TableLaws.{row-end}
-use Rattle.covariance.specs.Covariance.{total}
+use Rattle.sums.specs.Sums.{total}
 use Rattle.covariance.specs.Stored.{Totals, none, one-more, all-known}
 use Rattle.covariance.proofs.Steps.{band-long, band-is}
 use Rattle.covariance.proofs.totals.Statement.{statement}

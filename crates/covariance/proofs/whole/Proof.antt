@@ -4,7 +4,7 @@ use mathlib.Core.Path.{_∙_}
 use native.Mathlib.Omega.{arith}
 use borrow.Author.Needs.{needs}
 use Rattle.grid.specs.TableLaws.{row-end}
-use Rattle.covariance.specs.Range.{scaled-fits, pair-fits, entry-fits, entry-is}
+use Rattle.sums.specs.Range.{scaled-fits, pair-fits, entry-fits, entry-is}
 use Rattle.covariance.specs.Covariance.{whole}
 use Rattle.covariance.specs.Stored.{Totals, Known}
 use Rattle.covariance.proofs.Steps.{band-long, products-is}

@@ -3,7 +3,7 @@
 use mathlib.Core.Path.{refl}
 use native.Mathlib.Omega.{arith}
 use borrow.Author.Needs.{needs}
-use Rattle.solve.proofs.Checks.{split}
+use Rattle.solution.specs.SolutionLaws.{split}
 use Rattle.solve.proofs.solve_scanned.Statement.{statement}
 use Rattle.solve.proofs.solve_scanned.Tie as tie
 

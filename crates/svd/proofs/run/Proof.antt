@@ -9,8 +9,10 @@ use denote.Ref.{now}
 use Rattle.grid.specs.Real.{Vec, zeros}
 use Rattle.answers.specs.Answers.{least}
 use Rattle.sweep.specs.Kept.{Sized}
-use Rattle.svd.specs.Svd.{longest, loaded, ran}
-use Rattle.svd.specs.Known.{Checked, sized}
+use Rattle.sorted.specs.Result.{longest}
+use Rattle.svd.specs.Svd.{loaded, ran}
+use Rattle.sorted.specs.Known.{Checked}
+use Rattle.svd.specs.Known.{sized}
 use Rattle.svd.proofs.run.Statement.{statement}
 use Rattle.svd.proofs.run.Tie as tie
 

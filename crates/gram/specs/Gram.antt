@@ -1,0 +1,41 @@
+-- Modified Gram-Schmidt with one pass more for what the first left, operation for operation. Definitions only.
+-- q has m rows and k columns, row by row; a column that is worked on is a vector of its own.
+use Prim.Native.Nat.{ℕ}
+use lib.Ieee.{Float}
+use lib.ListN.{set}
+use Rattle.grid.specs.Loop.{upto}
+use Rattle.grid.specs.Real.{Vec, zero64, at, _⊕_, _⊖_, _⊗_}
+use Rattle.grid.specs.Cell.{entry}
+use Rattle.grid.specs.Table.{table}
+use Rattle.leaves.specs.Root.{root}
+
+-- column j of q
+abbrev pub columnOf : ℕ → ℕ → Vec → ℕ → Vec
+columnOf m k q j = table (λ row. entry q k row j) m
+
+abbrev pub dotStep : Vec → Vec → ℕ → Float → Float
+dotStep b c row acc = acc ⊕ at b row ⊗ at c row
+
+unfoldable pub dot : ℕ → Vec → Vec → Float
+dot m b c = upto (dotStep b c) 0 m zero64
+
+abbrev pub lessStep : Float → Vec → ℕ → Vec → Vec
+lessStep proj b row c = set c row (at c row ⊖ proj ⊗ at b row)
+
+unfoldable pub lessened : ℕ → Float → Vec → Vec → Vec
+lessened m proj b c = upto (lessStep proj b) 0 m c
+
+-- c against column i
+abbrev pub passStep : ℕ → ℕ → Vec → ℕ → Vec → Vec
+passStep m k q i c = lessened m (dot m (columnOf m k q i) c) (columnOf m k q i) c
+
+-- column c against the columns before j
+unfoldable pub pass : ℕ → ℕ → ℕ → Vec → Vec → Vec
+pass m k j q c = upto (passStep m k q) 0 j c
+
+-- twice: the second takes what the first left
+unfoldable pub passes : ℕ → ℕ → ℕ → Vec → Vec → Vec
+passes m k j q c = upto (λ p. pass m k j q) 0 2 c
+
+unfoldable pub norm : ℕ → Vec → Float
+norm m c = root (dot m c c)

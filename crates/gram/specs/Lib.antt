@@ -1,0 +1,2 @@
+-- Gram-Schmidt of one column.
+pub mod Gram

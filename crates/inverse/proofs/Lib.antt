@@ -1,0 +1,2 @@
+-- A row as the code works it out.
+pub mod Sums

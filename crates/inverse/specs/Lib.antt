@@ -1,0 +1,3 @@
+-- What a pseudo-inverse is, and laws for the code.
+pub mod Inverse
+pub mod InverseLaws

@@ -1,0 +1,3 @@
+-- The order of a decomposition.
+pub mod Order
+pub mod Rank

@@ -1,0 +1,2 @@
+-- Sums as the code works them out.
+pub mod Sums

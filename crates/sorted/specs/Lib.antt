@@ -1,0 +1,3 @@
+-- A decomposition as a result, and where its parts stand.
+pub mod Result
+pub mod Known

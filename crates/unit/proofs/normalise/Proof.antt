@@ -1,0 +1,31 @@
+-- Generated from the answers file beside it by tools/prove/prove.py: edit that.
+-- `unit::normalise` meets its contract.
+use native.Mathlib.Omega.{arith}
+use borrow.Author.Needs.{needs}
+use Rattle.unit.specs.Unit.{normalised}
+use Rattle.unit.proofs.normalise.Statement.{statement}
+use Rattle.unit.proofs.normalise.Tie as tie
+
+over-requires : tie.Need-over-requires
+over-requires c κs = search needs
+
+fill-requires : tie.Need-fill-requires
+fill-requires c κs = search needs
+
+same-length : tie.Need-same-length
+same-length c = omega arith
+
+returns : tie.Need-returns
+unfolding normalised
+returns c = rw (c .before .before .before .before .if1 .taken) (c .before .before .over .ensures)
+
+same-length-2 : tie.Need-same-length-2
+same-length-2 c = omega arith
+
+returns-2 : tie.Need-returns-2
+unfolding normalised
+returns-2 c = rw (c .before .before .before .before .if1 .left) (c .before .before .fill .ensures)
+
+pub normalise-spec : {M : Type 1} → statement M
+normalise-spec =
+    tie.close (tie.spec over-requires fill-requires same-length returns same-length-2 returns-2)

@@ -1,0 +1,2 @@
+-- A column made one of the basis.
+pub mod Unit

@@ -1,0 +1,2 @@
+-- The values of a run, and what the marks look at.
+pub mod Values
