@@ -119,8 +119,8 @@ static int transform_bands(void)
     for (b = 0; b < BANDS; b++)
         printf(" %.0f", covariance[b]);
     printf("\n");
-    a = crewelmarsh_symmetric_eigen(BANDS, CREWELMARSH_MAX_LIMIT, covariance, BANDS * BANDS, work, BANDS,
-                                    result, BANDS + BANDS * BANDS);
+    a = crewelmarsh_symmetric_eigen(BANDS, CREWELMARSH_MAX_LIMIT, CREWELMARSH_EDITION_1, covariance, BANDS * BANDS,
+                                    work, BANDS, result, BANDS + BANDS * BANDS);
     if (!done("symmetric_eigen", a))
         return 0;
     printf("symmetric_eigen: %d bands, %zu passes, values", BANDS, a.count);
@@ -220,7 +220,7 @@ static int pass_as_block(void)
 /* What a refusal looks like: 257 bands, and bands with no sample. */
 static void refuse(void)
 {
-    done("symmetric_eigen of 257", crewelmarsh_symmetric_eigen(257, 60, NULL, 0, NULL, 0, NULL, 0));
+    done("symmetric_eigen of 257", crewelmarsh_symmetric_eigen(257, 60, CREWELMARSH_EDITION_1, NULL, 0, NULL, 0, NULL, 0));
     done("covariance of no sample", crewelmarsh_covariance(3, 0, NULL, 0, NULL, 0));
 }
 

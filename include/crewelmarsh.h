@@ -47,15 +47,29 @@
  *     0        result or answer full, work all +0.0
  *     1 to 6   all untouched
  *     7 to 10  result or answer, and work, all +0.0
- *     11       all untouched
+ *     11, 12   all untouched
  *
  * Matrix, decomposition and right side are only read.
  *
  * 20 to 24 come from blocks alone, and leave all untouched.
  *
- * The tests run in the order of the numbers, but that for 11 comes behind 5 and before 6. So a 6 says that sizes,
- * limit, flags and tolerance were good, and a 7 that the lengths were good too. 8, 9 and 10 come as the run meets
- * them.
+ * The tests run in the order of the numbers, but those for 11 and 12 come behind 5 and before 6. So a 6 says that
+ * sizes, limit, edition, flags and tolerance were good, and a 7 that the lengths were good too. 8, 9 and 10 come as
+ * the run meets them.
+ *
+ * EDITIONS
+ *
+ * symmetric_eigen takes lengths of pairs of numbers, hypot(x, y), the root of x * x + y * y, and there are two rules
+ * for it. Its edition says which, and it is part of the definition: the same call in the other edition gives values
+ * and vectors that differ in their last bits, and now and then another count or answer.
+ *
+ *     1  the greater magnitude is taken out and each step rounds, as this library has always done
+ *     2  the double nearest to the exact root, a tie to the even one, as IEEE 754-2019 has it; an infinity beside
+ *        a NaN gives an infinity
+ *
+ * Which to choose: 1 where the bits must be those of what is stored already, since archives hold 1. Where nothing
+ * is stored, 2 has fewer roundings and agrees with other libraries more often, and takes some 4 % longer. Write
+ * down which one was taken, beside the data: the bits can't tell it.
  *
  * MARKS
  *
@@ -84,10 +98,10 @@
  *
  * WHICH LIBRARY
  *
- * In the library each entry's name ends in the major version, crewelmarsh_svd_abi2, and this header maps
+ * In the library each entry's name ends in the major version, crewelmarsh_svd_abi3, and this header maps
  * the plain name to it: that is what nm, a debugger and the linker show. So a program compiled with a
- * header of another major version doesn't link, and "undefined reference to crewelmarsh_svd_abi2" says
- * that the library is missing or is not of major version 2.
+ * header of another major version doesn't link, and "undefined reference to crewelmarsh_svd_abi3" says
+ * that the library is missing or is not of major version 3.
  */
 #ifndef CREWELMARSH_H
 #define CREWELMARSH_H
@@ -100,8 +114,8 @@
  * must be compiled anew. Another minor: something was added, or the bits of a result changed. Else another
  * patch.
  */
-#define CREWELMARSH_VERSION_MAJOR 2
-#define CREWELMARSH_VERSION_MINOR 3
+#define CREWELMARSH_VERSION_MAJOR 3
+#define CREWELMARSH_VERSION_MINOR 0
 #define CREWELMARSH_VERSION_PATCH 0
 #define CREWELMARSH_VERSION /* as a string */ \
     CREWELMARSH_DOTTED(CREWELMARSH_VERSION_MAJOR, CREWELMARSH_VERSION_MINOR, CREWELMARSH_VERSION_PATCH)
@@ -143,6 +157,12 @@ enum {
     CREWELMARSH_MAX_DIMENSION = 256,
     CREWELMARSH_MIN_LIMIT = 1,
     CREWELMARSH_MAX_LIMIT = 60
+};
+
+/* The editions (see EDITIONS above): what archives hold, and the correctly rounded one. */
+enum {
+    CREWELMARSH_EDITION_1 = 1,
+    CREWELMARSH_EDITION_2 = 2
 };
 
 /* How many samples a band may have (crewelmarsh_covariance). */
@@ -216,6 +236,11 @@ enum {
        A NaN is mostly a 0 / 0 in what the caller computed, as where the largest value is 0. */
     CREWELMARSH_TOLERANCE = 11,
 
+    /* The edition is not 1 or 2 (symmetric_eigen). Place 0.
+       Pass 1 where the bits must be those of an archive, else 1 or 2 as EDITIONS says. A huge number is mostly an
+       argument left out: the edition stands between the limit and the matrix. */
+    CREWELMARSH_EDITION = 12,
+
     /* A block is cut short: fewer than 12 bytes, or than its entries need, or than its numbers need. Place 0, as
        for 21 to 24.
        The block was not read or sent whole. Fetch it again. */
@@ -269,6 +294,7 @@ static inline const char *crewelmarsh_text(size_t answer)
     case CREWELMARSH_LIMIT_USED: return "the limit is used up";
     case CREWELMARSH_INVALID: return "a number computed is not a number";
     case CREWELMARSH_TOLERANCE: return "the tolerance is a NaN or below 0";
+    case CREWELMARSH_EDITION: return "the edition is not 1 or 2";
     case CREWELMARSH_BLOCK_SHORT: return "the block is cut short";
     case CREWELMARSH_BLOCK_OVER: return "bytes stand behind the block";
     case CREWELMARSH_BLOCK_COUNT: return "a dimension, a number of parts or a count of the block is bad";
@@ -405,6 +431,7 @@ static inline size_t crewelmarsh_covariance_matrix_len(size_t n)
  *
  * n          rows and columns, 0 to 256
  * limit      the most QL passes for any one value, 1 to 60
+ * edition    1 or 2, see EDITIONS; archives hold 1
  * matrix     n * n, only read, and only on and below the diagonal: above it may stand anything, also NaN
  * work       n
  * result     n + n * n. On 0: the n values, ascending; then the vectors, an n by n matrix whose column j
@@ -412,7 +439,7 @@ static inline size_t crewelmarsh_covariance_matrix_len(size_t n)
  *
  * Answers:
  *   0  count: passes run in all (0 for n = 0, and for a diagonal matrix)
- *   1, 2
+ *   1, 2, 12, tested in this order
  *   6  place 0 matrix, 1 work, 2 result
  *   7  place i * n + j, the first such on or below the diagonal, row by row
  *   8, 10  place and index by the mark; count: passes run in all
@@ -426,6 +453,7 @@ static inline size_t crewelmarsh_covariance_matrix_len(size_t n)
 struct crewelmarsh_answer crewelmarsh_symmetric_eigen(
     size_t n,
     size_t limit,
+    size_t edition,
     const double *matrix, size_t matrix_len,
     double *work, size_t work_len,
     double *result, size_t result_len);
@@ -716,7 +744,7 @@ struct crewelmarsh_answer crewelmarsh_block_write(
  * samples    n * N, only read, band by band: sample k of band x is at x * N + k. Aligned for int16_t. The length
  *            counts samples
  * matrix     n * n. On 0: the matrix, whole numbers of at most 2^53 in magnitude. No number on the diagonal is negative.
- *            symmetric_eigen takes it: with a limit and lengths that are right it answers 0, 8, 9 or 10 (T23)
+ *            symmetric_eigen takes it: with a limit, an edition and lengths that are right it answers 0, 8, 9 or 10 (T23)
  *
  * Answers, index and count always 0:
  *   0

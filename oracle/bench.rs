@@ -53,21 +53,21 @@ struct Shape {
 }
 
 entries! {
-    fn crewelmarsh_symmetric_eigen_abi2(n: usize, limit: usize, matrix: *const f64, matrix_len: usize, work: *mut f64, work_len: usize,
-        result: *mut f64, result_len: usize) -> Answer;
-    fn crewelmarsh_svd_abi2(m: usize, n: usize, want_u: usize, want_vt: usize, limit: usize, matrix: *const f64, matrix_len: usize,
+    fn crewelmarsh_symmetric_eigen_abi3(n: usize, limit: usize, edition: usize, matrix: *const f64, matrix_len: usize, work: *mut f64,
+        work_len: usize, result: *mut f64, result_len: usize) -> Answer;
+    fn crewelmarsh_svd_abi3(m: usize, n: usize, want_u: usize, want_vt: usize, limit: usize, matrix: *const f64, matrix_len: usize,
         work: *mut f64, work_len: usize, result: *mut f64, result_len: usize) -> Answer;
-    fn crewelmarsh_solve_abi2(m: usize, n: usize, has_u: usize, has_vt: usize, tolerance: f64, decomposition: *const f64,
+    fn crewelmarsh_solve_abi3(m: usize, n: usize, has_u: usize, has_vt: usize, tolerance: f64, decomposition: *const f64,
         decomposition_len: usize, right_side: *const f64, right_side_len: usize, answer: *mut f64, answer_len: usize) -> Answer;
-    fn crewelmarsh_pseudo_inverse_abi2(m: usize, n: usize, has_u: usize, has_vt: usize, tolerance: f64, decomposition: *const f64,
+    fn crewelmarsh_pseudo_inverse_abi3(m: usize, n: usize, has_u: usize, has_vt: usize, tolerance: f64, decomposition: *const f64,
         decomposition_len: usize, answer: *mut f64, answer_len: usize) -> Answer;
-    fn crewelmarsh_qr_q_abi2(m: usize, k: usize, matrix: *const f64, matrix_len: usize, answer: *mut f64, answer_len: usize) -> Answer;
-    fn crewelmarsh_block_check_abi2(block: *const u8, block_len: usize) -> Shape;
-    fn crewelmarsh_block_copy_abi2(own: *const u8, own_len: usize, main_block: *const u8, main_len: usize, kind: usize, out: *mut f64,
+    fn crewelmarsh_qr_q_abi3(m: usize, k: usize, matrix: *const f64, matrix_len: usize, answer: *mut f64, answer_len: usize) -> Answer;
+    fn crewelmarsh_block_check_abi3(block: *const u8, block_len: usize) -> Shape;
+    fn crewelmarsh_block_copy_abi3(own: *const u8, own_len: usize, main_block: *const u8, main_len: usize, kind: usize, out: *mut f64,
         out_len: usize) -> Answer;
-    fn crewelmarsh_block_write_abi2(rows: usize, columns: usize, parts: usize, kind1: usize, numbers1: *const f64, len1: usize,
+    fn crewelmarsh_block_write_abi3(rows: usize, columns: usize, parts: usize, kind1: usize, numbers1: *const f64, len1: usize,
         kind2: usize, numbers2: *const f64, len2: usize, kind3: usize, numbers3: *const f64, len3: usize, out: *mut u8, out_len: usize) -> Answer;
-    fn crewelmarsh_covariance_abi2(n: usize, count: usize, samples: *const i16, samples_len: usize, matrix: *mut f64, matrix_len: usize) -> Answer;
+    fn crewelmarsh_covariance_abi3(n: usize, count: usize, samples: *const i16, samples_len: usize, matrix: *mut f64, matrix_len: usize) -> Answer;
 }
 
 unsafe extern "C" {
@@ -75,29 +75,29 @@ unsafe extern "C" {
     fn dlsym(library: *mut u8, name: *const u8) -> *mut u8;
 }
 
-fn eigen(n: usize, matrix: &[f64], work: &mut [f64], result: &mut [f64]) -> Answer {
+fn eigen(n: usize, edition: usize, matrix: &[f64], work: &mut [f64], result: &mut [f64]) -> Answer {
     let (a, w, r) = (matrix.len(), work.len(), result.len());
-    unsafe { crewelmarsh_symmetric_eigen_abi2(n, 60, matrix.as_ptr(), a, work.as_mut_ptr(), w, result.as_mut_ptr(), r) }
+    unsafe { crewelmarsh_symmetric_eigen_abi3(n, 60, edition, matrix.as_ptr(), a, work.as_mut_ptr(), w, result.as_mut_ptr(), r) }
 }
 
 fn svd(n: usize, matrix: &[f64], work: &mut [f64], result: &mut [f64]) -> Answer {
     let (a, w, r) = (matrix.len(), work.len(), result.len());
-    unsafe { crewelmarsh_svd_abi2(n, n, 1, 1, 60, matrix.as_ptr(), a, work.as_mut_ptr(), w, result.as_mut_ptr(), r) }
+    unsafe { crewelmarsh_svd_abi3(n, n, 1, 1, 60, matrix.as_ptr(), a, work.as_mut_ptr(), w, result.as_mut_ptr(), r) }
 }
 
 fn solve(n: usize, given: &[f64], right: &[f64], answer: &mut [f64]) -> Answer {
     let (g, b, a) = (given.len(), right.len(), answer.len());
-    unsafe { crewelmarsh_solve_abi2(n, n, 1, 1, 0.0, given.as_ptr(), g, right.as_ptr(), b, answer.as_mut_ptr(), a) }
+    unsafe { crewelmarsh_solve_abi3(n, n, 1, 1, 0.0, given.as_ptr(), g, right.as_ptr(), b, answer.as_mut_ptr(), a) }
 }
 
 fn pseudo_inverse(n: usize, given: &[f64], answer: &mut [f64]) -> Answer {
     let (g, a) = (given.len(), answer.len());
-    unsafe { crewelmarsh_pseudo_inverse_abi2(n, n, 1, 1, 0.0, given.as_ptr(), g, answer.as_mut_ptr(), a) }
+    unsafe { crewelmarsh_pseudo_inverse_abi3(n, n, 1, 1, 0.0, given.as_ptr(), g, answer.as_mut_ptr(), a) }
 }
 
 fn qr_q(n: usize, matrix: &[f64], answer: &mut [f64]) -> Answer {
     let (m, a) = (matrix.len(), answer.len());
-    unsafe { crewelmarsh_qr_q_abi2(n, n, matrix.as_ptr(), m, answer.as_mut_ptr(), a) }
+    unsafe { crewelmarsh_qr_q_abi3(n, n, matrix.as_ptr(), m, answer.as_mut_ptr(), a) }
 }
 
 // ---------------------------------------------------------------- inputs
@@ -181,18 +181,18 @@ fn blocks(rng: &mut Random) {
     let mut block = vec![0u8; 48 + 8 * counts.iter().sum::<usize>()];
     let mut plain = vec![0u8; block.len()];
     let write = |given: &[Vec<f64>], to: &mut [u8]| unsafe {
-        crewelmarsh_block_write_abi2(
+        crewelmarsh_block_write_abi3(
             256, 256, 3, 1, given[0].as_ptr(), counts[0], 2, given[1].as_ptr(), counts[1], 3, given[2].as_ptr(), counts[2],
             to.as_mut_ptr(), to.len(),
         )
     };
-    let check = |block: &[u8]| unsafe { crewelmarsh_block_check_abi2(block.as_ptr(), block.len()) };
+    let check = |block: &[u8]| unsafe { crewelmarsh_block_check_abi3(block.as_ptr(), block.len()) };
     let copy = |block: &[u8], out: &mut [Vec<f64>]| {
         let shape = check(block);
         assert!(shape.answer == 0 && (shape.rows, shape.columns, shape.parts) == (256, 256, 3));
         for (to, kind) in out.iter_mut().zip(1..) {
             let done = unsafe {
-                crewelmarsh_block_copy_abi2(std::ptr::null(), 0, block.as_ptr(), block.len(), kind, to.as_mut_ptr(), to.len())
+                crewelmarsh_block_copy_abi3(std::ptr::null(), 0, block.as_ptr(), block.len(), kind, to.as_mut_ptr(), to.len())
             };
             assert_eq!(done.answer, 0);
         }
@@ -328,16 +328,20 @@ fn main() {
         for kind in 0..3 {
             let a = input(kind, n, &mut rng);
             let (mut work, mut result) = (vec![0.0; n], vec![0.0; n + n * n]);
-            assert_eq!(eigen(n, &a, &mut work, &mut result).answer, 0);
+            let (mut work2, mut result2) = (work.clone(), result.clone());
+            assert_eq!(eigen(n, 1, &a, &mut work, &mut result).answer, 0);
+            assert_eq!(eigen(n, 2, &a, &mut work2, &mut result2).answer, 0);
             let (mut b, mut w, mut space) = (vec![0.0; n * n], vec![0.0; n], vec![0.0; 64 * n + 64]);
             let (mut c, mut z, mut room, mut whole) = (vec![0.0; n * n], vec![0.0; n], vec![0.0; 1 + 6 * n + 2 * n * n], vec![0; 3 + 5 * n]);
             let times = medians(&mut [
                 &mut platform::eigen_call(n, &a),
-                &mut || drop(black_box(eigen(n, &a, &mut work, &mut result))),
+                &mut || drop(black_box(eigen(n, 1, &a, &mut work, &mut result))),
                 &mut || lapack.iter().for_each(|l| l.eigen(n, &a, &mut b, &mut w, &mut space)),
                 &mut || lapack.iter().for_each(|l| l.divide(n, &a, &mut c, &mut z, &mut room, &mut whole)),
+                &mut || drop(black_box(eigen(n, 2, &a, &mut work2, &mut result2))),
             ]);
             row("symmetric_eigen", KINDS[kind], n, &times, lapack.is_some());
+            row("symmetric_eigen, edition 2", KINDS[kind], n, &[times[0], times[4]], false);
         }
     }
     for n in [16, 64, 128, 256] {

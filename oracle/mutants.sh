@@ -107,6 +107,14 @@ answers 3 and 4 swapped	s/told(3, 0, 0)/told(4, 0, 0)/
 right side before the flags	s/if right_side.len() != m {/if right_side.len() > m {/
 right side's place from 0	s/decomposition.len() + place/place/
 count of sweeps one less	s/told(9, count, count)/told(9, count, count - 1)/
+edition 3 taken	s/if edition != 1 \&\& edition != 2 {/if edition != 1 \&\& edition != 2 \&\& edition != 3 {/
+edition not looked at	s/if edition != 1 \&\& edition != 2 {/if false {/
+edition after the lengths	s/if edition != 1 \&\& edition != 2 {/if edition != 1 \&\& edition != 2 \&\& matrix.len() == n * n \&\& work.len() == n {/
+edition before the limit	s/if limit < 1 || limit > MOST {/if (1..=2).contains(\&edition) \&\& (limit < 1 || limit > MOST) {/;/fn svd/,$s/(1..=2).contains(&edition) && //
+arrays cleared on 12	s/return told(12, 0, 0);/work.fill(0.0); return told(12, 0, 0);/
+hypot by edition 1 always	s/if edition == 2 { hypot02/if edition == 9 { hypot02/
+hypot by edition 2 always	s/if edition == 2 { hypot02/if edition < 9 { hypot02/
+hypot 2 rounded down	s/Ordering::Greater => high,/Ordering::Greater => low,/
 hypot of the larger first	s/if x.abs() < y.abs()/if x.abs() > y.abs()/
 hypot by root(x*x + y*y)	s/    let q = b \/ a;/    return (a * a + b * b).sqrt(); #[allow(unreachable_code)] let q = b \/ a;/
 block little-endian	s/u32::from_be_bytes/u32::from_le_bytes/

@@ -13,17 +13,20 @@ ORACLE_SOURCES := $(wildcard oracle/src/*.rs)
 ORACLE_RUSTC := $(RUSTC) --edition 2024 -C opt-level=3
 ORACLE_ENTRIES := $(ENTRIES:crewelmarsh_%=%)
 
-.PHONY: verbatim oracle oracle-check oracle-mutants oracle-standin findings cases compare bench bench-blocks bench-root has-rustc
+.PHONY: verbatim oracle oracle-check oracle-mutants oracle-standin findings cases compare compare-hypot bench bench-blocks bench-root has-rustc
 
 has-rustc:
 	@command -v $(RUSTC) >/dev/null || { echo "the oracle is Rust, and there is no $(RUSTC) here"; exit 1; }
 
-$(ORACLE)/document_000_hypot01.rs: oracle/src/document_000.rs
-	mkdir -p $(ORACLE)
-	sed 's/\.hypot(/.hypot01(/' $< >$@
+# Document 000 with the hypot of an edition, 01 or 02, in place of the platform's.
+DOCUMENTS := $(ORACLE)/document_000_hypot01.rs $(ORACLE)/document_000_hypot02.rs
 
-$(ORACLE)/liboracle.rlib: $(ORACLE_SOURCES) $(ORACLE)/document_000_hypot01.rs | has-rustc
-	DOCUMENT_000_HYPOT01=$(CURDIR)/$(ORACLE)/document_000_hypot01.rs $(ORACLE_RUSTC) --crate-type rlib --crate-name oracle \
+$(ORACLE)/document_000_hypot%.rs: oracle/src/document_000.rs
+	mkdir -p $(ORACLE)
+	sed 's/\.hypot(/.hypot$*(/' $< >$@
+
+$(ORACLE)/liboracle.rlib: $(ORACLE_SOURCES) $(DOCUMENTS) | has-rustc
+	DOCUMENT_000_HYPOT01=$(CURDIR)/$(ORACLE)/document_000_hypot01.rs DOCUMENT_000_HYPOT02=$(CURDIR)/$(ORACLE)/document_000_hypot02.rs $(ORACLE_RUSTC) --crate-type rlib --crate-name oracle \
 	  --cfg 'feature="machine_learning"' --check-cfg 'cfg(feature, values("machine_learning"))' oracle/src/lib.rs -o $@
 
 $(ORACLE)/oracle: oracle/src/main.rs $(ORACLE)/liboracle.rlib
@@ -89,10 +92,23 @@ $(ORACLE)/runner: oracle/runner.c $(ARCHIVE)
 RUN_RUNNER = $(KIT_TOOLS)/bin/qemu-x86_64 $(KIT_TOOLS)/lib/ld-linux-x86-64.so.2 --library-path $(KIT_TOOLS)/lib $(ORACLE)/runner
 endif
 
-# The committed list and fresh cases through the archive's C entries.
-compare: $(ORACLE)/oracle $(ORACLE)/runner
+# The committed list and fresh cases through the archive's C entries, and pairs through hypot of edition 2.
+compare: $(ORACLE)/oracle $(ORACLE)/runner compare-hypot
 	$(ORACLE)/oracle list | $(RUN_RUNNER)
 	$(ORACLE)/oracle fresh $(SEED) $(CASES) $(LARGEST) | $(RUN_RUNNER)
+
+# The archive has no entry for hypot, so the pairs go through the program `vectors`, which reads no more than some thousand lines at a time.
+# Said with them: of how many the platform's hypot gives other bits.
+PAIRS ?= 2000000
+
+target/bin/vectors: $(CRATE_FILES)
+	$(RT) check vectors
+
+compare-hypot: $(ORACLE)/oracle target/bin/vectors
+	$(ORACLE)/oracle hypots $(SEED) $(PAIRS) | split -l 1900 --filter='$(EMULATOR) target/bin/vectors' >$(ORACLE)/hypots
+	$(ORACLE)/oracle hypots-wanted $(SEED) $(PAIRS) | cmp - $(ORACLE)/hypots
+	@echo "hypot, edition 2: $$(wc -l <$(ORACLE)/hypots) pairs, none differs"
+	$(ORACLE)/oracle hypots-platform $(SEED) $(PAIRS)
 
 # Document 000 and the archive in one program and one run; the table is docs/BENCHMARKS.md's. Elsewhere than on x86-64 the
 # archive's module is compiled for the machine first, since a time under an emulator says nothing.
@@ -130,8 +146,9 @@ bench-blocks: $(ORACLE)/bench
 bench-covariance: $(ORACLE)/bench
 	$(ORACLE)/bench covariance
 
-# The root as it is compiled, held to the processor's and measured beside it and beside what stood there before; no archive and no rustc.
-$(ORACLE)/root_leaves.o: oracle/root.sh oracle/module.sh oracle/compile.sh $(wildcard crates/leaves/src/*.rt crates/vectors/src/*.rt)
+# The root as it is compiled, held to the processor's and measured beside it and beside what stood there before, and both editions of hypot; no archive and no
+# rustc.
+$(ORACLE)/root_leaves.o: oracle/root.sh oracle/module.sh oracle/compile.sh $(wildcard crates/leaves/src/*.rt crates/hypot2/src/*.rt crates/vectors/src/*.rt)
 	@mkdir -p $(ORACLE)
 	oracle/root.sh $@
 

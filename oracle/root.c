@@ -1,5 +1,5 @@
 /* `leaves::root` as it is compiled (oracle/root.sh) beside the processor's own root and what stood in its place before (oracle/root_former.c): each held to the
-   processor's on random numbers, and the times of all in one run. root COUNT. */
+   processor's on random numbers, and the times of all in one run; and of both editions of hypot. root COUNT. */
 #define _POSIX_C_SOURCE 199309L
 #include <stdint.h>
 #include <stdio.h>
@@ -8,6 +8,8 @@
 #include <time.h>
 
 double leaves_root(double x);
+double leaves_hypot(double x, double y);
+double hypot2_hypot2(double x, double y);
 double former_root(double x);
 double factor_root(double x);
 
@@ -122,6 +124,10 @@ static double median(void (*all)(double (*)(double)), double (*root)(double))
     return took[RUNS / 2];
 }
 
+/* Beside 1 none of the numbers is so large or small that no root is worked out. */
+static double hypot_1(double x) { return leaves_hypot(x, 1); }
+static double hypot_2(double x) { return hypot2_hypot2(x, 1); }
+
 static void time_of(const char *what, double (*root)(double)) { printf("| %s | %.1f | %.1f |\n", what, median(waiting, root), median(apart, root)); }
 
 int main(int words, char **word)
@@ -139,5 +145,7 @@ int main(int words, char **word)
     time_of("before: a guess, tested in whole numbers", former_root);
     time_of("before, where the guess was not enough: the digit as a factor", factor_root);
     time_of("the root: a select for each digit", leaves_root);
+    time_of("hypot, edition 1", hypot_1);
+    time_of("hypot, edition 2", hypot_2);
     return wrong != 0;
 }

@@ -37,13 +37,14 @@ struct call {
     size_t m, n;   /* eigen has n alone; n is the k of qr_q */
     size_t u, vt;  /* the flags */
     size_t limit;
+    size_t edition; /* of eigen */
     double tolerance;
     const double *in, *right;
     size_t in_full, right_full; /* how many numbers `in` and `right` hold */
     size_t in_len, right_len, work_len, out_len;
 };
 
-/* Calls whose lengths are right. Limits are 60, both flags 1 and the tolerance 0, until changed. */
+/* Calls whose lengths are right. Limits are 60, the edition and both flags 1 and the tolerance 0, until changed. */
 struct call eigen_call(size_t n, const double *matrix);
 struct call svd_call(size_t m, size_t n, size_t u, size_t vt, const double *matrix);
 struct call solve_call(size_t m, size_t n, const double *decomposition, const double *right);
@@ -53,7 +54,7 @@ struct call qr_q_call(size_t m, size_t k, const double *matrix);
 /*
  * Runs a call on arrays between guard words, twice, with other old contents the second time; an array
  * of length 0 is NULL the first time. Checks the four numbers (the index is 0), the guards, that what is only read is
- * unchanged byte for byte, and of the other arrays what the answer promises: 1 to 6 and 11 unchanged, 7 to 10
+ * unchanged byte for byte, and of the other arrays what the answer promises: 1 to 6, 11 and 12 unchanged, 7 to 10
  * +0.0 throughout, 0 work +0.0 and every number of the result finite, the same both times, and with the
  * bits of `out` where that is not NULL.
  */

@@ -134,8 +134,8 @@ static struct crewelmarsh_answer run(const struct call *c, const double *in, con
     struct crewelmarsh_answer none = {99, 99, 99, 99};
     switch (c->entry) {
     case EIGEN:
-        return crewelmarsh_symmetric_eigen(c->n, c->limit, in, c->in_len, work, c->work_len,
-                                           out, c->out_len);
+        return crewelmarsh_symmetric_eigen(c->n, c->limit, c->edition, in, c->in_len,
+                                           work, c->work_len, out, c->out_len);
     case SVD:
         return crewelmarsh_svd(c->m, c->n, c->u, c->vt, c->limit, in, c->in_len,
                                work, c->work_len, out, c->out_len);
@@ -156,7 +156,7 @@ static int left_as_promised(const struct call *c, size_t answer)
 {
     if (answer == 0)
         return zeroed(WORK, c->work_len) && all_finite(OUT, c->out_len);
-    if (answer <= 6 || answer == 11)
+    if (answer <= 6 || answer == 11 || answer == 12)
         return kept(WORK, c->work_len) && kept(OUT, c->out_len);
     return zeroed(WORK, c->work_len) && zeroed(OUT, c->out_len);
 }
@@ -273,6 +273,7 @@ static struct call blank(enum entry entry, size_t m, size_t n)
     c.u = 1;
     c.vt = 1;
     c.limit = 60;
+    c.edition = 1;
     return c;
 }
 

@@ -242,7 +242,7 @@ static void then_eigen(void)
     for (k = 0; k < 5 * 64; k++)
         samples[k] = (int16_t)((int)draw(4096) - 100);
     check(crewelmarsh_covariance(5, 64, samples, 5 * 64, matrix, 25).answer == 0, "then symmetric_eigen: covariance");
-    check(crewelmarsh_symmetric_eigen(5, 60, matrix, 25, work, 5, result, 30).answer == 0, "then symmetric_eigen");
+    check(crewelmarsh_symmetric_eigen(5, 60, 1, matrix, 25, work, 5, result, 30).answer == 0, "then symmetric_eigen");
     for (k = 0; k < 5; k++) {
         trace += matrix[k * 5 + k];
         sum += result[k];

@@ -23,19 +23,23 @@ static void worked(void)
     expect("NaN below the diagonal", eigen_call(2, matrix), 7, 2, 0, NULL);
 }
 
-/* Whatever stands above the diagonal, the outcome is the same. */
-static void above_the_diagonal(void)
+/* Whatever stands above the diagonal, the outcome is the same, in each edition. */
+static void above_the_diagonal(size_t edition)
 {
     static const size_t above[3] = {1, 2, 5};
     double result[12], matrix[9];
-    size_t count = expect_done("plain", eigen_call(3, plain), result);
+    struct call c = eigen_call(3, plain);
+    size_t count;
     int i, k, w;
+    c.edition = edition;
+    count = expect_done("plain", c, result);
+    c.in = matrix;
     for (w = 0; w < BAD_NUMBERS; w++)
         for (i = 0; i < 3; i++) {
             for (k = 0; k < 9; k++)
                 matrix[k] = plain[k];
             matrix[above[i]] = from_bits(bad_numbers[w]);
-            expect("above the diagonal", eigen_call(3, matrix), 0, 0, count, result);
+            expect("above the diagonal", c, 0, 0, count, result);
         }
 }
 
@@ -47,6 +51,7 @@ static void order_of_tests(void)
     matrix[2] = not_a_number();
     c.n = 257;
     c.limit = 0;
+    c.edition = 0;
     c.in_len = 3;
     c.work_len = 1;
     c.out_len = 7;
@@ -56,6 +61,10 @@ static void order_of_tests(void)
     c.limit = 61;
     expect("limit 61", c, 2, 0, 0, NULL);
     c.limit = 1;
+    expect("edition 0", c, 12, 0, 0, NULL);
+    c.edition = 3;
+    expect("edition 3", c, 12, 0, 0, NULL);
+    c.edition = 2;
     expect("matrix of 3", c, 6, 0, 0, NULL);
     c.in_len = 4;
     expect("work of 1", c, 6, 1, 0, NULL);
@@ -156,10 +165,45 @@ static void large_limits(void)
     }
 }
 
+static void large_editions(void)
+{
+    struct call c = eigen_call(3, plain);
+    int i;
+    for (i = 0; i < LARGE_NUMBERS; i++) {
+        c.edition = large_numbers[i];
+        expect("edition", c, 12, 0, 0, NULL);
+    }
+}
+
+/* The vectors' numbers are 3 over a hypot. In edition 2 they come to the double nearest to the root of 1/2, in edition 1 to the one below it. Of `plain`
+   nearly every number differs in its last bits, those of the oracle. */
+static void editions(void)
+{
+    static const uint64_t minus_three = 0xc008000000000000u, three = 0x4008000000000000u, minus = 0x8000000000000000u;
+    static const uint64_t root_half[2] = {0x3fe6a09e667f3bccu, 0x3fe6a09e667f3bcdu};
+    static const uint64_t of_plain[2][12] = {
+        {0x400276bd7259c067u, 0x40052513c77a9a76u, 0x401c32176315d290u, 0xbfe7954f2c3d2fddu, 0xbfd4fdb5f638b251u, 0x3fe2e98bcedf294du,
+         0x3fe2e98bcedf294bu, 0xbfe7954f2c3d2fdfu, 0x3fd4fdb5f638b253u, 0x3fd4fdb5f638b257u, 0x3fe2e98bcedf294cu, 0x3fe7954f2c3d2fdbu},
+        {0x400276bd7259c067u, 0x40052513c77a9a76u, 0x401c32176315d291u, 0xbfe7954f2c3d2fdeu, 0xbfd4fdb5f638b252u, 0x3fe2e98bcedf294eu,
+         0x3fe2e98bcedf294cu, 0xbfe7954f2c3d2fe0u, 0x3fd4fdb5f638b254u, 0x3fd4fdb5f638b258u, 0x3fe2e98bcedf294du, 0x3fe7954f2c3d2fddu}};
+    double matrix[4] = {0, 0, 3, 0};
+    struct call c = eigen_call(2, matrix), d = eigen_call(3, plain);
+    for (c.edition = d.edition = 1; c.edition <= 2; c.edition++, d.edition++) {
+        uint64_t half = root_half[c.edition - 1], bits[6];
+        bits[0] = minus_three;
+        bits[1] = three;
+        bits[2] = bits[3] = bits[5] = half;
+        bits[4] = half | minus;
+        expect_bits("an edition", c, 1, bits);
+        expect_bits("an edition of the plain matrix", d, 4, of_plain[d.edition - 1]);
+    }
+}
+
 void test_symmetric_eigen(void)
 {
     worked();
-    above_the_diagonal();
+    above_the_diagonal(1);
+    above_the_diagonal(2);
     order_of_tests();
     lengths();
     not_finite();
@@ -169,4 +213,6 @@ void test_symmetric_eigen(void)
     equal_values();
     limits();
     large_limits();
+    editions();
+    large_editions();
 }

@@ -41,11 +41,11 @@ SAME(covariance_over, CREWELMARSH_COVARIANCE_SAMPLES_LEN(3, 65537), 0);
 SAME(covariance_bands, CREWELMARSH_COVARIANCE_SAMPLES_LEN(257, 1), 0);
 SAME(covariance_matrix, CREWELMARSH_COVARIANCE_MATRIX_LEN(3), 9);
 
-#if CREWELMARSH_VERSION_MAJOR < 2
+#if CREWELMARSH_VERSION_MAJOR < 3
 #error "the version is no number"
 #endif
 
-/* "2.3.0", of one digit each until one has more. */
+/* "3.0.0", of one digit each until one has more. */
 static int version_right(void)
 {
     const char *v = CREWELMARSH_VERSION;
@@ -61,11 +61,11 @@ static int constants_right(void)
     return CREWELMARSH_DONE == 0 && CREWELMARSH_DIMENSION == 1 && CREWELMARSH_LIMIT == 2 &&
            CREWELMARSH_NO_U == 3 && CREWELMARSH_NO_VT == 4 && CREWELMARSH_RIGHT_SIDE == 5 &&
            CREWELMARSH_LENGTH == 6 && CREWELMARSH_NOT_FINITE == 7 && CREWELMARSH_OVERFLOW == 8 &&
-           CREWELMARSH_LIMIT_USED == 9 && CREWELMARSH_INVALID == 10 && CREWELMARSH_TOLERANCE == 11 && CREWELMARSH_BLOCK_SHORT == 20 &&
+           CREWELMARSH_LIMIT_USED == 9 && CREWELMARSH_INVALID == 10 && CREWELMARSH_TOLERANCE == 11 && CREWELMARSH_EDITION == 12 && CREWELMARSH_BLOCK_SHORT == 20 &&
            CREWELMARSH_BLOCK_OVER == 21 && CREWELMARSH_BLOCK_COUNT == 22 && CREWELMARSH_BLOCK_KIND == 23 &&
            CREWELMARSH_BLOCK_OFFSET == 24 && CREWELMARSH_VALUES == 1 && CREWELMARSH_MATRIX == 2 &&
            CREWELMARSH_INVERSE == 3 && CREWELMARSH_BLOCK_MOST == 1050672 && CREWELMARSH_MAX_DIMENSION == 256 &&
-           CREWELMARSH_MIN_LIMIT == 1 && CREWELMARSH_MAX_LIMIT == 60;
+           CREWELMARSH_MIN_LIMIT == 1 && CREWELMARSH_MAX_LIMIT == 60 && CREWELMARSH_EDITION_1 == 1 && CREWELMARSH_EDITION_2 == 2;
 }
 
 /* Those of covariance. */
@@ -78,13 +78,13 @@ static int covariance_constants_right(void)
 /* The text of each number differs from the others, and from the one that all other numbers have. */
 static int texts_differ(void)
 {
-    static const size_t numbers[] = {0, 1, 2, 3, 4, 5, 6, 7, 8, 9, 10, 11, 20, 21, 22, 23, 24, 25, 26, (size_t)-1};
+    static const size_t numbers[] = {0, 1, 2, 3, 4, 5, 6, 7, 8, 9, 10, 11, 12, 20, 21, 22, 23, 24, 25, 26, (size_t)-1};
     size_t a, b;
     for (a = 0; a < sizeof numbers / sizeof numbers[0]; a++)
         for (b = 0; b < a; b++)
             if (strcmp(crewelmarsh_text(numbers[a]), crewelmarsh_text(numbers[b])) == 0)
                 return 0;
-    return strcmp(crewelmarsh_text(12), crewelmarsh_text((size_t)-1)) == 0 && strcmp(crewelmarsh_text(19), crewelmarsh_text(27)) == 0;
+    return strcmp(crewelmarsh_text(13), crewelmarsh_text((size_t)-1)) == 0 && strcmp(crewelmarsh_text(19), crewelmarsh_text(27)) == 0;
 }
 
 static int square_lengths_right(size_t n)
@@ -177,7 +177,7 @@ static int entries_link(void)
            crewelmarsh_block_length(0, 0, 0, 0, 0, 0) == 12 &&
            is_answer(crewelmarsh_block_write(0, 0, 0, 0, NULL, 0, 0, NULL, 0, 0, NULL, 0, least, 12), 0, 0, 0) &&
            crewelmarsh_block_check(least, 12).answer == 0 && none.start == 0 && none.length == 0 &&
-           is_answer(crewelmarsh_symmetric_eigen(0, 60, NULL, 0, NULL, 0, NULL, 0), 0, 0, 0) &&
+           is_answer(crewelmarsh_symmetric_eigen(0, 60, 1, NULL, 0, NULL, 0, NULL, 0), 0, 0, 0) &&
            is_answer(crewelmarsh_svd(0, 0, 1, 1, 60, NULL, 0, NULL, 0, NULL, 0), 0, 0, 1) &&
            is_answer(crewelmarsh_solve(0, 0, 1, 1, 0.0, NULL, 0, NULL, 0, NULL, 0), 0, 0, 0) &&
            is_answer(crewelmarsh_pseudo_inverse(0, 0, 1, 1, 0.0, NULL, 0, NULL, 0), 0, 0, 0) &&

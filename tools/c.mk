@@ -30,7 +30,7 @@ VERSION := $(MAJOR).$(call said,MINOR).$(call said,PATCH)
 ENTRIES := $(shell sed -n 's/^.define \(crewelmarsh_[a-z_]*\) CREWELMARSH_NAME.*/\1_abi$(MAJOR)/p' include/crewelmarsh.h)
 
 # How many checks the boundary's test makes.
-BOUNDARY_CHECKS := 21740
+BOUNDARY_CHECKS := 22027
 BOUNDARY_PARTS := boundary check eigen svd row solve qr marks sizes numbers block covariance header header_cpp
 BOUNDARY_OBJECTS := $(BOUNDARY_PARTS:%=build/tests/%.o)
 

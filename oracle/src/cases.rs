@@ -54,7 +54,7 @@ pub fn made(kind: u64, seed: u64, scale: f64, len: usize) -> Vec<f64> {
 #[derive(Clone)]
 pub struct Case {
     pub function: u64,
-    /// `symmetric_eigen`: n, limit. `svd`: m, n, want_u, want_vt, limit. `solve`, `pseudo_inverse`: m, n, has_u,
+    /// `symmetric_eigen`: n, limit, edition. `svd`: m, n, want_u, want_vt, limit. `solve`, `pseudo_inverse`: m, n, has_u,
     /// has_vt, tolerance's bits. `qr_q`: m, k. The row of V^T: m, n, has_u, has_vt, j.
     pub parameters: [u64; 5],
     pub input: Input,
@@ -115,7 +115,7 @@ impl Case {
         let tolerance = f64::from_bits(self.parameters[4]);
         let a = &self.a[..];
         let answer = match self.function {
-            EIGEN => patched::symmetric_eigen(p[0], p[1], a, &mut work, &mut result),
+            EIGEN => patched::symmetric_eigen(p[0], p[1], p[2], a, &mut work, &mut result),
             SVD => patched::svd(p[0], p[1], p[2], p[3], p[4], a, &mut work, &mut result),
             SOLVE => patched::solve(p[0], p[1], p[2], p[3], tolerance, a, &self.b, &mut result),
             PSEUDO_INVERSE => patched::pseudo_inverse(p[0], p[1], p[2], p[3], tolerance, a, &mut result),
@@ -357,6 +357,10 @@ fn limit(rng: &mut Random) -> u64 {
     if rng.one_in(3) { rng.of(&[0, 1, 2, 3, 4, 5, 59, 60, 61, 1 << 32, u64::MAX]) } else { 60 }
 }
 
+fn edition(rng: &mut Random) -> u64 {
+    if rng.one_in(20) { rng.of(&[0, 3, 1 << 32, u64::MAX]) } else { 1 + rng.below(2) }
+}
+
 fn flag(rng: &mut Random, set: u64) -> u64 {
     if rng.one_in(set) { 0 } else { rng.of(&[1, 1, 1, 2, 1 << 32, u64::MAX]) }
 }
@@ -402,7 +406,7 @@ pub fn random(rng: &mut Random, largest: u64) -> Case {
                     }
                 }
             }
-            Case::new(function, &[m, limit(rng)], a)
+            Case::new(function, &[m, limit(rng), edition(rng)], a)
         }
         SVD => {
             let a = numbers(rng, mu, nu);

@@ -3,7 +3,7 @@
 
 #[allow(dead_code)]
 mod block;
-// The method `hypot01` has no entry.
+// The methods of `Hypot` have no entry.
 #[allow(dead_code)]
 mod hypot;
 #[allow(dead_code)]
@@ -21,9 +21,10 @@ unsafe fn lent_mut<'a>(start: *mut f64, len: usize) -> &'a mut [f64] {
 }
 
 #[unsafe(no_mangle)]
-pub unsafe extern "C" fn crewelmarsh_symmetric_eigen_abi2(
+pub unsafe extern "C" fn crewelmarsh_symmetric_eigen_abi3(
     n: usize,
     limit: usize,
+    edition: usize,
     matrix: *const f64,
     matrix_len: usize,
     work: *mut f64,
@@ -32,12 +33,12 @@ pub unsafe extern "C" fn crewelmarsh_symmetric_eigen_abi2(
     result_len: usize,
 ) -> Answer {
     unsafe {
-        patched::symmetric_eigen(n, limit, lent(matrix, matrix_len), lent_mut(work, work_len), lent_mut(result, result_len))
+        patched::symmetric_eigen(n, limit, edition, lent(matrix, matrix_len), lent_mut(work, work_len), lent_mut(result, result_len))
     }
 }
 
 #[unsafe(no_mangle)]
-pub unsafe extern "C" fn crewelmarsh_svd_abi2(
+pub unsafe extern "C" fn crewelmarsh_svd_abi3(
     m: usize,
     n: usize,
     want_u: usize,
@@ -63,7 +64,7 @@ pub struct Extent {
 }
 
 #[unsafe(no_mangle)]
-pub extern "C" fn crewelmarsh_vt_row_extent_abi2(
+pub extern "C" fn crewelmarsh_vt_row_extent_abi3(
     m: usize,
     n: usize,
     has_u: usize,
@@ -76,7 +77,7 @@ pub extern "C" fn crewelmarsh_vt_row_extent_abi2(
 }
 
 #[unsafe(no_mangle)]
-pub unsafe extern "C" fn crewelmarsh_solve_abi2(
+pub unsafe extern "C" fn crewelmarsh_solve_abi3(
     m: usize,
     n: usize,
     has_u: usize,
@@ -96,7 +97,7 @@ pub unsafe extern "C" fn crewelmarsh_solve_abi2(
 }
 
 #[unsafe(no_mangle)]
-pub unsafe extern "C" fn crewelmarsh_pseudo_inverse_abi2(
+pub unsafe extern "C" fn crewelmarsh_pseudo_inverse_abi3(
     m: usize,
     n: usize,
     has_u: usize,
@@ -114,7 +115,7 @@ pub unsafe extern "C" fn crewelmarsh_pseudo_inverse_abi2(
 }
 
 #[unsafe(no_mangle)]
-pub unsafe extern "C" fn crewelmarsh_qr_q_abi2(
+pub unsafe extern "C" fn crewelmarsh_qr_q_abi3(
     m: usize,
     k: usize,
     matrix: *const f64,
@@ -148,7 +149,7 @@ pub struct Shape {
 }
 
 #[unsafe(no_mangle)]
-pub unsafe extern "C" fn crewelmarsh_block_check_abi2(block: *const u8, block_len: usize) -> Shape {
+pub unsafe extern "C" fn crewelmarsh_block_check_abi3(block: *const u8, block_len: usize) -> Shape {
     match block::read(unsafe { bytes(block, block_len) }) {
         Ok(b) => Shape { answer: 0, rows: b.rows, columns: b.columns, parts: b.parts.len() },
         Err(answer) => Shape { answer, rows: 0, columns: 0, parts: 0 },
@@ -163,7 +164,7 @@ pub struct Found {
 }
 
 #[unsafe(no_mangle)]
-pub unsafe extern "C" fn crewelmarsh_block_find_abi2(
+pub unsafe extern "C" fn crewelmarsh_block_find_abi3(
     own: *const u8,
     own_len: usize,
     main_block: *const u8,
@@ -175,7 +176,7 @@ pub unsafe extern "C" fn crewelmarsh_block_find_abi2(
 }
 
 #[unsafe(no_mangle)]
-pub unsafe extern "C" fn crewelmarsh_block_copy_abi2(
+pub unsafe extern "C" fn crewelmarsh_block_copy_abi3(
     own: *const u8,
     own_len: usize,
     main_block: *const u8,
@@ -194,7 +195,7 @@ pub unsafe extern "C" fn crewelmarsh_block_copy_abi2(
 }
 
 #[unsafe(no_mangle)]
-pub extern "C" fn crewelmarsh_block_length_abi2(
+pub extern "C" fn crewelmarsh_block_length_abi3(
     rows: usize,
     columns: usize,
     parts: usize,
@@ -206,7 +207,7 @@ pub extern "C" fn crewelmarsh_block_length_abi2(
 }
 
 #[unsafe(no_mangle)]
-pub unsafe extern "C" fn crewelmarsh_block_write_abi2(
+pub unsafe extern "C" fn crewelmarsh_block_write_abi3(
     rows: usize,
     columns: usize,
     parts: usize,
@@ -261,7 +262,7 @@ fn covariance(n: usize, count: usize, samples: &[i16], matrix: &mut [f64]) -> An
 }
 
 #[unsafe(no_mangle)]
-pub unsafe extern "C" fn crewelmarsh_covariance_abi2(
+pub unsafe extern "C" fn crewelmarsh_covariance_abi3(
     n: usize,
     count: usize,
     samples: *const i16,

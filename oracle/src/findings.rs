@@ -68,7 +68,7 @@ fn survey(what: &str, mut draw: impl FnMut(&mut Random) -> (usize, Vec<f64>)) {
         let done = Case::new(SVD, &[size, size, 1, 1, 60], a.clone()).outcome();
         answers[done.answer.answer] += 1;
         crooked += (done.answer.answer == 0 && off(n, n, |i, j| done.result[n + i * n + j]) > 1e-8) as usize;
-        eigen[Case::new(EIGEN, &[size, 60], a).outcome().answer.answer] += 1;
+        eigen[Case::new(EIGEN, &[size, 60, 1], a).outcome().answer.answer] += 1;
     }
     println!("{what}: svd by answer 0 to 10 {answers:?}, answer 0 with U off by more than 1e-8 {crooked}, symmetric_eigen {eigen:?}");
 }

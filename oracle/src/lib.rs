@@ -6,6 +6,7 @@ pub mod cases;
 pub mod findings;
 pub mod hypot;
 pub mod ndarray;
+pub mod pairs;
 pub mod patched;
 pub mod plain;
 pub mod special;

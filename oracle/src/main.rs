@@ -1,7 +1,8 @@
-//! The oracle's commands: `list`, `agreed`, `blocks`, `blocks-wanted`, `fresh SEED CASES LARGEST`, `check SEED CASES LARGEST`, `findings`.
+//! The oracle's commands: `list`, `agreed`, `blocks`, `blocks-wanted`, `fresh SEED CASES LARGEST`,
+//! `check SEED CASES LARGEST`, `findings`, `hypots SEED PAIRS`, `hypots-wanted SEED PAIRS`, `hypots-platform SEED PAIRS`.
 
 use oracle::cases::*;
-use oracle::{blocks, findings, plain, special};
+use oracle::{blocks, findings, pairs, plain, special};
 use std::io::{self, BufWriter, Write};
 
 /// Words of a result up to this many stand in the committed list; a longer one is there by its hash.
@@ -57,14 +58,14 @@ fn fresh(out: &mut impl Write, seed: u64, cases: usize, largest: u64) -> io::Res
     out.write_all(&0u64.to_le_bytes())
 }
 
-/// Where the patched functions answer 0, document 000 with 01's hypot gives the same bits. Also says how many answers
-/// of each number there were, and in how many cases the platform's hypot gives other bits.
+/// Where the patched functions answer 0, document 000 with the edition's hypot gives the same bits. Also says how many answers
+/// of each number there were, and in how many cases the platform's hypot gives other bits than each edition.
 fn check(seed: u64, cases: usize, largest: u64) -> bool {
-    let mut answers = [[0usize; 12]; 7];
+    let mut answers = [[0usize; 13]; 7];
     let mut marks = [[[0usize; 3]; 2]; 7];
     let mut compared = [0usize; 7];
     let mut wrong = 0;
-    let mut other_hypot = 0;
+    let mut other_hypot = [[0usize; 2]; 2];
     let mut rng = Random::new(seed);
     let mut all = special::all();
     while all.len() < cases {
@@ -85,7 +86,7 @@ fn check(seed: u64, cases: usize, largest: u64) -> bool {
         let at = done.answer.index == 0 || matches!(done.answer.answer, 8 | 10);
         let fits = at && match done.answer.answer {
             0 => plus_zero(&done.work) && done.result.iter().all(|x| x.is_finite()),
-            1..=6 | 11 => same(&work, &done.work) && same(&result, &done.result),
+            1..=6 | 11 | 12 => same(&work, &done.work) && same(&result, &done.result),
             _ => plus_zero(&done.work) && plus_zero(&done.result),
         };
         if !fits {
@@ -98,6 +99,7 @@ fn check(seed: u64, cases: usize, largest: u64) -> bool {
         let p = case.parameters.map(|p| p as usize);
         let tolerance = f64::from_bits(case.parameters[4]);
         let given = match case.function {
+            EIGEN if p[2] == 2 => plain::by_02::eigen_cells(p[0], &case.a),
             EIGEN => plain::by_01::eigen_cells(p[0], &case.a),
             SVD => plain::by_01::svd_cells(p[0], p[1], p[2] != 0, p[3] != 0, &case.a),
             SOLVE => plain::by_01::solve_cells(p[0], p[1], tolerance, &case.a, &case.b),
@@ -110,13 +112,17 @@ fn check(seed: u64, cases: usize, largest: u64) -> bool {
             println!("other bits: {} {:?} {:?}", NAMES[case.function as usize], case.parameters, case.a);
         }
         if case.function == EIGEN && p[0] <= 12 {
-            other_hypot += !same(&plain::platform::eigen_cells(p[0], &case.a), &done.result) as usize;
+            let of = &mut other_hypot[p[2] - 1];
+            of[0] += !same(&plain::platform::eigen_cells(p[0], &case.a), &done.result) as usize;
+            of[1] += 1;
         }
     }
     for f in 1..6 {
-        println!("{}: {} compared with document 000; cases by answer 0 to 11: {:?}, 8 by place 0 to 2: {:?}, 10: {:?}", NAMES[f], compared[f], answers[f], marks[f][0], marks[f][1]);
+        println!("{}: {} compared with document 000; cases by answer 0 to 12: {:?}, 8 by place 0 to 2: {:?}, 10: {:?}", NAMES[f], compared[f], answers[f], marks[f][0], marks[f][1]);
     }
-    println!("{} of the eigen cases up to n = 12 have other bits under the platform's hypot", other_hypot);
+    for (edition, of) in [1, 2].iter().zip(other_hypot) {
+        println!("edition {edition}: {} of {} eigen cases up to n = 12 have other bits under the platform's hypot", of[0], of[1]);
+    }
     println!("{} cases, {} wrong", all.len(), wrong);
     wrong == 0
 }
@@ -139,7 +145,13 @@ fn main() -> io::Result<()> {
             return Ok(());
         }
         Some("findings") => findings::print(),
-        _ => eprintln!("oracle list | oracle agreed | oracle blocks | oracle blocks-wanted | oracle findings | oracle fresh SEED CASES LARGEST | oracle check SEED CASES LARGEST"),
+        Some("hypots") => pairs::given(&mut out, number(1, 1), number(2, 2_000_000) as usize)?,
+        Some("hypots-wanted") => pairs::wanted(&mut out, number(1, 1), number(2, 2_000_000) as usize)?,
+        Some("hypots-platform") => {
+            let count = number(2, 2_000_000) as usize;
+            writeln!(out, "{} of {count} pairs have other bits under the platform's hypot than under edition 2", pairs::platform(number(1, 1), count))?;
+        }
+        _ => eprintln!("oracle list | oracle agreed | oracle blocks | oracle blocks-wanted | oracle findings | oracle hypots SEED PAIRS | oracle hypots-wanted SEED PAIRS | oracle hypots-platform SEED PAIRS | oracle fresh SEED CASES LARGEST | oracle check SEED CASES LARGEST"),
     }
     out.flush()
 }

@@ -1,7 +1,7 @@
-//! Document 000 with 01's three patches (hypot, limits, marks) inside 01's arrays and refusals. Storage and shape of
+//! Document 000 with 01's three patches (hypot, of either edition, limits, marks) inside 01's arrays and refusals. Storage and shape of
 //! the routines are document 000's: row by row, one routine each.
 
-use crate::hypot::hypot01;
+use crate::hypot::by_edition;
 
 #[repr(C)]
 #[derive(Clone, Copy, Debug, PartialEq, Eq)]
@@ -42,12 +42,15 @@ fn first_wrong(lengths: &[(usize, usize)]) -> Option<usize> {
 
 // ---------------------------------------------------------------- symmetric_eigen
 
-pub fn symmetric_eigen(n: usize, limit: usize, matrix: &[f64], work: &mut [f64], result: &mut [f64]) -> Answer {
+pub fn symmetric_eigen(n: usize, limit: usize, edition: usize, matrix: &[f64], work: &mut [f64], result: &mut [f64]) -> Answer {
     if n > LARGEST {
         return told(1, 0, 0);
     }
     if limit < 1 || limit > MOST {
         return told(2, 0, 0);
+    }
+    if edition != 1 && edition != 2 {
+        return told(12, 0, 0);
     }
     if let Some(place) = first_wrong(&[(matrix.len(), n * n), (work.len(), n), (result.len(), n + n * n)]) {
         return told(6, place, 0);
@@ -71,7 +74,7 @@ pub fn symmetric_eigen(n: usize, limit: usize, matrix: &[f64], work: &mut [f64],
     if let Some(refusal) = mark(0, 0, &[&d, &e, &v]) {
         return refusal;
     }
-    let answer = tql2(n, limit, &mut v, &mut d, &mut e);
+    let answer = tql2(n, limit, edition, &mut v, &mut d, &mut e);
     if answer.answer == 0 {
         result[..n].copy_from_slice(&d);
         result[n..].copy_from_slice(&v);
@@ -173,7 +176,7 @@ fn tred2(n: usize, v: &mut [f64], d: &mut [f64], e: &mut [f64]) {
     e[0] = 0.0;
 }
 
-fn tql2(n: usize, limit: usize, v: &mut [f64], d: &mut [f64], e: &mut [f64]) -> Answer {
+fn tql2(n: usize, limit: usize, edition: usize, v: &mut [f64], d: &mut [f64], e: &mut [f64]) -> Answer {
     for i in 1..n {
         e[i - 1] = e[i];
     }
@@ -194,7 +197,7 @@ fn tql2(n: usize, limit: usize, v: &mut [f64], d: &mut [f64], e: &mut [f64]) -> 
         }
         let mut passes = 0;
         while m > l {
-            pass(n, l, m, &mut f, v, d, e);
+            pass(n, edition, l, m, &mut f, v, d, e);
             passes += 1;
             count += 1;
             if let Some(refusal) = mark(1, count, &[d, e]) {
@@ -235,10 +238,10 @@ fn tql2(n: usize, limit: usize, v: &mut [f64], d: &mut [f64], e: &mut [f64]) -> 
 }
 
 /// One QL pass of `tql2`: the body of its unbounded `loop`.
-fn pass(n: usize, l: usize, m: usize, f: &mut f64, v: &mut [f64], d: &mut [f64], e: &mut [f64]) {
+fn pass(n: usize, edition: usize, l: usize, m: usize, f: &mut f64, v: &mut [f64], d: &mut [f64], e: &mut [f64]) {
     let mut g = d[l];
     let mut p = (d[l + 1] - g) / (2.0 * e[l]);
-    let mut r = hypot01(p, 1.0);
+    let mut r = by_edition(edition, p, 1.0);
     if p < 0.0 {
         r = -r;
     }
@@ -264,7 +267,7 @@ fn pass(n: usize, l: usize, m: usize, f: &mut f64, v: &mut [f64], d: &mut [f64],
         s2 = s;
         g = c * e[i];
         h = c * p;
-        r = hypot01(p, e[i]);
+        r = by_edition(edition, p, e[i]);
         e[i + 1] = s * r;
         s = e[i] / r;
         c = p / r;

@@ -1,5 +1,5 @@
 //! Document 000's own functions, their text unchanged, over the stand-in for ndarray: once with the platform's
-//! `hypot`, once with the name `hypot` replaced by 01's `hypot01` when this is built.
+//! `hypot`, and with the name `hypot` replaced, when this is built, by that of edition 1, `hypot01`, and of edition 2, `hypot02`.
 
 use std::hint::black_box;
 
@@ -108,8 +108,16 @@ pub mod platform {
 
 pub mod by_01 {
     use super::{Error, black_box};
-    use crate::hypot::Hypot01;
+    use crate::hypot::Hypot;
     use crate::ndarray::{Array1, Array2};
     include!(env!("DOCUMENT_000_HYPOT01"));
+    calls!();
+}
+
+pub mod by_02 {
+    use super::{Error, black_box};
+    use crate::hypot::Hypot;
+    use crate::ndarray::{Array1, Array2};
+    include!(env!("DOCUMENT_000_HYPOT02"));
     calls!();
 }

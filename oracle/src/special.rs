@@ -7,7 +7,7 @@ const NAN: f64 = f64::NAN;
 const INF: f64 = f64::INFINITY;
 
 fn eigen(n: u64, limit: u64, a: &[f64]) -> Case {
-    Case::new(EIGEN, &[n, limit], a.to_vec())
+    Case::new(EIGEN, &[n, limit, 1], a.to_vec())
 }
 
 fn svd(m: u64, n: u64, limit: u64, a: &[f64]) -> Case {
@@ -248,8 +248,11 @@ pub fn refusals() -> Vec<Case> {
         }
     };
     let square = eigen(3, 60, &[1.0, 2.0, 3.0, 2.0, 5.0, 6.0, 3.0, 6.0, 9.0]);
+    let edition: [Damage; 3] =
+        [|c| c.parameters[2] = 0, |c| c.parameters[2] = 3, |c| c.parameters[2] = u64::MAX];
     let mut all = vec![far, matrix, matrix_short, work, work_none, result, result_none, number, number_first];
     all.extend(eigen_limit);
+    all.extend(edition);
     pairs(&square, &all);
     let rectangle = svd(2, 3, 60, &[1.0, 2.0, 3.0, 4.0, 5.0, 7.0]);
     let mut all = vec![far, far_second, matrix, matrix_short, work, work_none, result, result_none, number, number_first];
@@ -355,7 +358,22 @@ pub fn sizes() -> Vec<Case> {
     out
 }
 
-/// All of them.
+/// Matrices of which the two editions give other bits: whole numbers, numbers in ±0.5, and one with a pass at which hypot 1 is off.
+pub fn editions() -> Vec<Case> {
+    let mut out = Vec::new();
+    for seed in 1..40 {
+        for kind in [1, 2] {
+            let n = 2 + seed % 11;
+            out.push(large(eigen(n, 60, &[]), kind, seed, 1.0, (n * n) as usize, 0));
+        }
+    }
+    out
+}
+
+/// All of them, and each case of `symmetric_eigen` in edition 2 too.
 pub fn all() -> Vec<Case> {
-    [worked(), findings(), marks(), refusals(), rows(), sizes()].concat()
+    let mut all = [worked(), findings(), marks(), refusals(), rows(), sizes(), editions()].concat();
+    let second = all.iter().filter(|case| case.function == EIGEN && case.parameters[2] == 1).cloned();
+    all.extend(second.map(|mut case| { case.parameters[2] = 2; case }).collect::<Vec<_>>());
+    all
 }

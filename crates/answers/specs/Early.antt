@@ -12,3 +12,7 @@ pub record Early (x : Answer) : Type 0 where
 -- in a call with a tolerance 11 too
 abbrev pub EarlyOr11 : Answer → Type 0
 EarlyOr11 x = Early x ⊎ (x .answer ≡ 11)
+
+-- in a call with an edition 12 too
+abbrev pub EarlyOr12 : Answer → Type 0
+EarlyOr12 x = Early x ⊎ (x .answer ≡ 12)

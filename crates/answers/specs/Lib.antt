@@ -6,3 +6,4 @@ pub mod OutcomeLaws
 pub mod Index
 pub mod IndexLaws
 pub mod ToleranceLaws
+pub mod EditionLaws

@@ -1,7 +1,7 @@
 // What a call comes back with, and the checks that several calls share.
 ghost use mathlib.Core.Path.{_≡_};
 ghost use Prim.Native.Nat.{_≤_};
-ghost use Rattle.answers.specs.Answers.{answered, done, refused, emptied, limitGood, toleranceGood, lengths, fitting, refusal7, marked, least, present, decompositionLength};
+ghost use Rattle.answers.specs.Answers.{answered, done, refused, emptied, limitGood, editionGood, toleranceGood, lengths, fitting, fittingEdition, refusal7, marked, least, present, decompositionLength};
 use grid::fill;
 use leaves::Bad;
 
@@ -78,6 +78,16 @@ pub fn limit_good(limit: usize) -> bool
     limit <= 60
 }
 
+// An edition of hypot is 1 or 2.
+fn edition_good(edition: usize) -> bool
+    ensures { λ r. ⌜ r ≡ editionGood edition ⌝ }
+{
+    if edition < 1 {
+        return false;
+    }
+    edition <= 2
+}
+
 // A tolerance is 0 or above. -0.0 equals 0; a NaN does not, and is not above it.
 fn tolerance_good(tolerance: f64) -> bool
     ensures { λ r. ⌜ r ≡ toleranceGood tolerance ⌝ }
@@ -109,6 +119,24 @@ pub fn fitting(tolerance: f64, a: usize, want_a: usize, b: usize, want_b: usize)
         return refused(11, 0);
     }
     lengths(a, want_a, b, want_b, 0, 0)
+}
+
+// Refusal 12, or 6 as in `lengths`, or the pass: of a call with an edition and three arrays.
+pub fn fitting_edition(
+    edition: usize,
+    a: usize,
+    want_a: usize,
+    b: usize,
+    want_b: usize,
+    c: usize,
+    want_c: usize,
+) -> Answer
+    ensures { λ r. ⌜ r ≡ fittingEdition edition a «want_a» b «want_b» c «want_c» ⌝ }
+{
+    if !edition_good(edition) {
+        return refused(12, 0);
+    }
+    lengths(a, want_a, b, want_b, c, want_c)
 }
 
 // r, the smaller of m and n.

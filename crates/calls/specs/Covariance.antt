@@ -27,16 +27,16 @@ use Rattle.entries.specs.One.{covariance-old-contents, covariance-index-zero}
 abbrev pub Ran : Answer → Type 0
 Ran x = (x .answer ≡ 0) ⊎ (x .answer ≡ 9) ⊎ Class (x .answer)
 
-told-ran : (n limit : ℕ) (x : Vec × Vec × Vec) (o : Answer × Vec × Vec × Vec) → Told n limit x o → Ran (o .0)
-told-ran n limit x o (well r w) = inl refl
-told-ran n limit x o (at-mark2 {c = c} {b = b} {i = i} {y = y} r f) = inr (inr (first-class (at (list2 n y)) (length (list2 n y)) i b f))
-told-ran n limit x o (at-mark1 {l = l} {c = c} {k = k} {b = b} {i = i} {y = y} {z = z} h r t) = inr (inr (first-class (at (list1 z)) (length (list1 z)) i b (mark1-sees n limit l t)))
-told-ran n limit x o (at-limit h r t) = inr (inl refl)
+told-ran : (n limit edition : ℕ) (x : Vec × Vec × Vec) (o : Answer × Vec × Vec × Vec) → Told n limit edition x o → Ran (o .0)
+told-ran n limit edition x o (well r w) = inl refl
+told-ran n limit edition x o (at-mark2 {c = c} {b = b} {i = i} {y = y} r f) = inr (inr (first-class (at (list2 n y)) (length (list2 n y)) i b f))
+told-ran n limit edition x o (at-mark1 {l = l} {c = c} {k = k} {b = b} {i = i} {y = y} {z = z} h r t) = inr (inr (first-class (at (list1 z)) (length (list1 z)) i b (mark1-sees n limit edition l t)))
+told-ran n limit edition x o (at-limit h r t) = inr (inl refl)
 
-says-ran : (n limit : ℕ) (a : Vec) (o : Outcome) → Says n limit a o → Ran (o .0)
-says-ran n limit a o (nothing z) = inl refl
-says-ran n limit a o (at-mark0 {b = b} {i = i} h) = inr (inr (first-class (at (list0 n (reduced n a))) (length (list0 n (reduced n a))) i b (h .seen)))
-says-ran n limit a o (runs {o = p} z r t) = subst Ran (sym (given-answer n p)) (told-ran n limit (reduced n a) p t)
+says-ran : (n limit edition : ℕ) (a : Vec) (o : Outcome) → Says n limit edition a o → Ran (o .0)
+says-ran n limit edition a o (nothing z) = inl refl
+says-ran n limit edition a o (at-mark0 {b = b} {i = i} h) = inr (inr (first-class (at (list0 n (reduced n a))) (length (list0 n (reduced n a))) i b (h .seen)))
+says-ran n limit edition a o (runs {o = p} z r t) = subst Ran (sym (given-answer n p)) (told-ran n limit edition (reduced n a) p t)
 
 module _ (n N : ℕ) (samples : List ℤ) (m : Vec) (o : Answer × Vec) (p : o ≡ covariance n N samples m) where
   pub covariance-over-first-calls : o .0 .answer ≡ 26 → FirstOver n N samples (o .0 .place)
@@ -62,18 +62,18 @@ module _ (n N : ℕ) (samples : List ℤ) (m : Vec) (o : Answer × Vec) (p : o �
     long : length (o .1) ≡ n * n
     long = ap (λ (r : Answer × Vec). length (r .1)) p ∙ covariance-long n N samples m done0
 
-    -- the matrix handed on to `symmetric_eigen`, with a limit and arrays that are right
-    module _ (limit : ℕ) (work result : Vec) (least : 1 ≤ limit) (most : limit ≤ 60) (works : length work ≡ n) (room : length result ≡ n + n * n) where
-      -- **covariance-then-eigen**: it passes checks 1, 2, 6 and 7
-      pub covariance-then-eigen : Taken n limit (o .1) work result
+    -- the matrix handed on to `symmetric_eigen`, with a limit, an edition and arrays that are right
+    module _ (limit edition : ℕ) (work result : Vec) (least : 1 ≤ limit) (most : limit ≤ 60) (choice : (edition ≡ 1) ⊎ (edition ≡ 2)) (works : length work ≡ n) (room : length result ≡ n + n * n) where
+      -- **covariance-then-eigen**: it passes checks 1, 2, 12, 6 and 7
+      pub covariance-then-eigen : Taken n limit edition (o .1) work result
       covariance-then-eigen = record {
-        fit = record { small = covariance-sizes n N samples m done0 .bands; least = least; most = most; square = long; works = works; room = room };
+        fit = record { small = covariance-sizes n N samples m done0 .bands; least = least; most = most; choice = choice; square = long; works = works; room = room };
         finite = λ i j h l. covariance-finite-out-calls (i * n + j) (subst (λ (k : ℕ). i * n + j < k) (sym long) (cell n n i j l (omega arith)));
       }
 
       -- so that a call that meets its promise, x, answers 0, 8, 9 or 10
-      pub covariance-then-ran : (x : Outcome) → Promised n limit (o .1) work result x → Ran (x .0)
-      covariance-then-ran x q = subst (λ (r : Outcome). Ran (r .0)) (sym q) (says-ran n limit (o .1) (eigen n limit (o .1) work result) (says n limit (o .1) work result covariance-then-eigen))
+      pub covariance-then-ran : (x : Outcome) → Promised n limit edition (o .1) work result x → Ran (x .0)
+      covariance-then-ran x q = subst (λ (r : Outcome). Ran (r .0)) (sym q) (says-ran n limit edition (o .1) (eigen n limit edition (o .1) work result) (says n limit edition (o .1) work result covariance-then-eigen))
 
 -- two calls that differ in what the matrix held before, x and y
 pub covariance-old-contents-calls : (n N : ℕ) (samples : List ℤ) (x y : Vec) (o p : Answer × Vec) → length x ≡ length y

@@ -17,20 +17,21 @@ use blockread::Shape;
 use row::Extent;
 
 #[no_mangle]
-pub extern "C" fn crewelmarsh_symmetric_eigen_abi2(
+pub extern "C" fn crewelmarsh_symmetric_eigen_abi3(
     n: usize,
     limit: usize,
+    edition: usize,
     matrix: &[f64],
     work: &mut [f64],
     result: &mut [f64],
 ) -> Answer
-    ensures { λ r. ⌜ (r, now (work .exit), now (result .exit)) ≡ eigen n limit (now (matrix .entry)) (now (work .entry)) (now (result .entry)) ⌝ }
+    ensures { λ r. ⌜ (r, now (work .exit), now (result .exit)) ≡ eigen n limit edition (now (matrix .entry)) (now (work .entry)) (now (result .entry)) ⌝ }
 {
-    eigen::symmetric_eigen(n, limit, matrix, work, result)
+    eigen::symmetric_eigen(n, limit, edition, matrix, work, result)
 }
 
 #[no_mangle]
-pub extern "C" fn crewelmarsh_svd_abi2(
+pub extern "C" fn crewelmarsh_svd_abi3(
     m: usize,
     n: usize,
     want_u: usize,
@@ -46,7 +47,7 @@ pub extern "C" fn crewelmarsh_svd_abi2(
 }
 
 #[no_mangle]
-pub extern "C" fn crewelmarsh_vt_row_extent_abi2(
+pub extern "C" fn crewelmarsh_vt_row_extent_abi3(
     m: usize,
     n: usize,
     has_u: usize,
@@ -60,7 +61,7 @@ pub extern "C" fn crewelmarsh_vt_row_extent_abi2(
 }
 
 #[no_mangle]
-pub extern "C" fn crewelmarsh_solve_abi2(
+pub extern "C" fn crewelmarsh_solve_abi3(
     m: usize,
     n: usize,
     has_u: usize,
@@ -85,7 +86,7 @@ pub extern "C" fn crewelmarsh_solve_abi2(
 }
 
 #[no_mangle]
-pub extern "C" fn crewelmarsh_pseudo_inverse_abi2(
+pub extern "C" fn crewelmarsh_pseudo_inverse_abi3(
     m: usize,
     n: usize,
     has_u: usize,
@@ -100,7 +101,7 @@ pub extern "C" fn crewelmarsh_pseudo_inverse_abi2(
 }
 
 #[no_mangle]
-pub extern "C" fn crewelmarsh_qr_q_abi2(
+pub extern "C" fn crewelmarsh_qr_q_abi3(
     m: usize,
     k: usize,
     matrix: &[f64],
@@ -114,21 +115,21 @@ pub extern "C" fn crewelmarsh_qr_q_abi2(
 // ---- transform blocks
 
 #[no_mangle]
-pub extern "C" fn crewelmarsh_block_check_abi2(block: &[u8]) -> Shape
+pub extern "C" fn crewelmarsh_block_check_abi3(block: &[u8]) -> Shape
     ensures { λ r. ⌜ r ≡ shapeOf (now (block .entry)) ⌝ }
 {
     blockread::shape_of(block)
 }
 
 #[no_mangle]
-pub extern "C" fn crewelmarsh_block_find_abi2(own: &[u8], main_block: &[u8], kind: usize) -> Found
+pub extern "C" fn crewelmarsh_block_find_abi3(own: &[u8], main_block: &[u8], kind: usize) -> Found
     ensures { λ r. ⌜ r ≡ found (now (own .entry)) (now («main_block» .entry)) kind ⌝ }
 {
     blockread::locate(own, main_block, kind)
 }
 
 #[no_mangle]
-pub extern "C" fn crewelmarsh_block_copy_abi2<'a>(
+pub extern "C" fn crewelmarsh_block_copy_abi3<'a>(
     own: &'a [u8],
     main_block: &'a [u8],
     kind: usize,
@@ -140,7 +141,7 @@ pub extern "C" fn crewelmarsh_block_copy_abi2<'a>(
 }
 
 #[no_mangle]
-pub extern "C" fn crewelmarsh_block_length_abi2(
+pub extern "C" fn crewelmarsh_block_length_abi3(
     rows: usize,
     columns: usize,
     parts: usize,
@@ -154,7 +155,7 @@ pub extern "C" fn crewelmarsh_block_length_abi2(
 }
 
 #[no_mangle]
-pub extern "C" fn crewelmarsh_block_write_abi2(
+pub extern "C" fn crewelmarsh_block_write_abi3(
     rows: usize,
     columns: usize,
     parts: usize,
@@ -183,7 +184,7 @@ pub extern "C" fn crewelmarsh_block_write_abi2(
 }
 
 #[no_mangle]
-pub extern "C" fn crewelmarsh_covariance_abi2(
+pub extern "C" fn crewelmarsh_covariance_abi3(
     n: usize,
     count: usize,
     samples: &[i16],

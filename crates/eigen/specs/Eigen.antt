@@ -9,7 +9,7 @@ use Rattle.grid.specs.Real.{Vec, zeros}
 use Rattle.grid.specs.Cell.{at2, put2, entry}
 use Rattle.leaves.specs.Scan.{isBad, firstBad, byRows, firstBadLower}
 use Rattle.leaves.specs.declared.Bad.{Bad}
-use Rattle.answers.specs.Answers.{done, refused, passed, limitGood, lengths, refusal7, marked}
+use Rattle.answers.specs.Answers.{done, refused, passed, limitGood, fittingEdition, refusal7, marked}
 use Rattle.answers.specs.declared.Answer.{Answer}
 use Rattle.tred.specs.Tred.{tred2}
 use Rattle.ql.specs.Ql.{tql2}
@@ -46,11 +46,11 @@ unfoldable pub mark0 : ℕ → Vec → Vec → Vec → Bad
 mark0 n v d e = firstBad (d ++ e ++ byRows n v)
 
 -- after tred2: mark 0, or tql2
-unfoldable pub afterTred : ℕ → ℕ → Vec × Vec × Vec → Answer × Vec × Vec × Vec
-afterTred n limit (v, d, e) = cond (isBad (mark0 n v d e)) (marked 0 0 (mark0 n v d e), v, d, e) (tql2 n limit (v, d, e))
+unfoldable pub afterTred : ℕ → ℕ → ℕ → Vec × Vec × Vec → Answer × Vec × Vec × Vec
+afterTred n limit edition (v, d, e) = cond (isBad (mark0 n v d e)) (marked 0 0 (mark0 n v d e), v, d, e) (tql2 n limit edition (v, d, e))
 
-unfoldable pub decomposed : ℕ → ℕ → Vec → Vec × Vec × Vec → Answer × Vec × Vec × Vec
-decomposed n limit a (v, d, e) = afterTred n limit (tred2 n (columns n a v, d, e))
+unfoldable pub decomposed : ℕ → ℕ → ℕ → Vec → Vec × Vec × Vec → Answer × Vec × Vec × Vec
+decomposed n limit edition a (v, d, e) = afterTred n limit edition (tred2 n (columns n a v, d, e))
 
 -- ---- what is lent afterwards
 
@@ -64,18 +64,18 @@ given n (x, v, d, e) = cond (passed x) (x, zeros n, d ++ rows n v) (cleared n x)
 
 -- ---- the call
 
--- sizes, limit and lengths are as they should be
-unfoldable pub entered : ℕ → ℕ → Vec → Answer × Vec × Vec
-entered n limit a =
+-- sizes, limit, edition and lengths are as they should be
+unfoldable pub entered : ℕ → ℕ → ℕ → Vec → Answer × Vec × Vec
+entered n limit edition a =
     let x = refusal7 (firstBadLower n a) in
     cond (passed x)
-    (cond (eqb n 0) (cleared n (done 0)) (given n (decomposed n limit a (zeros (n * n), zeros n, zeros n))))
+    (cond (eqb n 0) (cleared n (done 0)) (given n (decomposed n limit edition a (zeros (n * n), zeros n, zeros n))))
     (cleared n x)
 
--- 1, 2 and 6 leave work and result as they were
-unfoldable pub eigen : ℕ → ℕ → Vec → Vec → Vec → Answer × Vec × Vec
-eigen n limit a work result =
-    let x = lengths (length a) (n * n) (length work) n (length result) (n + n * n) in
+-- 1, 2, 12 and 6 leave work and result as they were
+unfoldable pub eigen : ℕ → ℕ → ℕ → Vec → Vec → Vec → Answer × Vec × Vec
+eigen n limit edition a work result =
+    let x = fittingEdition edition (length a) (n * n) (length work) n (length result) (n + n * n) in
     cond (ltb 256 n)
     (refused 1 0, work, result)
-    (cond (not (limitGood limit)) (refused 2 0, work, result) (cond (passed x) (entered n limit a) (x, work, result)))
+    (cond (not (limitGood limit)) (refused 2 0, work, result) (cond (passed x) (entered n limit edition a) (x, work, result)))

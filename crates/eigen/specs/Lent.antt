@@ -102,13 +102,13 @@ module _ (n : ℕ) (R W : Vec) (small : n ≤ 256) (w : W ≡ zeros n) (r : R �
       → length (take n (d ++ drop n (zeros 256))) ≤ length (putMid n (length R - n) R v)
   d-front v d lv ld = omega (arith, d-again d ld, v-back v lv)
 
-  pub run-whole : (limit : ℕ) (a v d e : Vec) (x : Answer) (t : Answer × Vec × Vec)
+  pub run-whole : (limit edition : ℕ) (a v d e : Vec) (x : Answer) (t : Answer × Vec × Vec)
       → length v ≡ length (midOf n (length R - n) R) → length d ≡ length (take n (zeros 256)) → length e ≡ length W
-      → _≡_ {A = Answer × Vec × Vec × Vec} (x, v, d, e) (outward n (decomposed n limit a (midOf n (length R - n) R, take n (zeros 256), W)))
+      → _≡_ {A = Answer × Vec × Vec × Vec} (x, v, d, e) (outward n (decomposed n limit edition a (midOf n (length R - n) R, take n (zeros 256), W)))
       → t ≡ laid x (take n (d ++ drop n (zeros 256))) e (putMid n (length R - n) R v)
-      → t ≡ given n (decomposed n limit a (zeros (n * n), zeros n, zeros n))
-  run-whole limit a v d e x t lv ld le s g =
-      let y : Answer × Vec × Vec × Vec = decomposed n limit a (zeros (n * n), zeros n, zeros n) in
+      → t ≡ given n (decomposed n limit edition a (zeros (n * n), zeros n, zeros n))
+  run-whole limit edition a v d e x t lv ld le s g =
+      let y : Answer × Vec × Vec × Vec = decomposed n limit edition a (zeros (n * n), zeros n, zeros n) in
       let k : length d ≡ n = ld ∙ d-length in
       g
       ∙ ap (λ (z : Vec). laid x z e (putMid n (length R - n) R v)) (take-at d (drop n (zeros 256)) n k)

@@ -9,7 +9,7 @@ ghost use Rattle.eigen.specs.Eigen.{copyRow, columns, mirrorRow, rows, m
 ghost use Rattle.eigen.specs.Lent.{outward, laid};
 use answers::Answer;
 use answers::done;
-use answers::lengths;
+use answers::fitting_edition;
 use answers::limit_good;
 use answers::marked;
 use answers::refusal7;
@@ -85,47 +85,56 @@ fn mark0(n: usize, v: &[f64], d: &[f64], e: &[f64]) -> Bad
 }
 
 // The run after `tred2`.
-fn after_tred(n: usize, limit: usize, v: &mut [f64], d: &mut [f64], e: &mut [f64]) -> Answer
+fn after_tred(
+    n: usize,
+    limit: usize,
+    edition: usize,
+    v: &mut [f64],
+    d: &mut [f64],
+    e: &mut [f64],
+) -> Answer
     requires { ⌜ (0 < n) × (n ≤ 256) × (limit ≤ 60) × Sized n (now v) (now d) (now e) ⌝ }
-    ensures { λ r. ⌜ (r, now (v .exit), now (d .exit), now (e .exit)) ≡ afterTred n limit (now (v .entry), now (d .entry), now (e .entry)) ⌝ }
+    ensures { λ r. ⌜ (r, now (v .exit), now (d .exit), now (e .exit)) ≡ afterTred n limit edition (now (v .entry), now (d .entry), now (e .entry)) ⌝ }
 {
     let b = mark0(n, v, d, e);
     if is_bad(b) {
         return marked(0, 0, b);
     }
-    tql2(n, limit, v, d, e)
+    tql2(n, limit, edition, v, d, e)
 }
 
 // The run.
 fn decompose(
     n: usize,
     limit: usize,
+    edition: usize,
     a: &[f64],
     v: &mut [f64],
     d: &mut [f64],
     e: &mut [f64],
 ) -> Answer
     requires { ⌜ (0 < n) × (n ≤ 256) × (limit ≤ 60) × (length (now a) ≡ n * n) × Sized n (now v) (now d) (now e) ⌝ }
-    ensures { λ r. ⌜ (r, now (v .exit), now (d .exit), now (e .exit)) ≡ decomposed n limit (now (a .entry)) (now (v .entry), now (d .entry), now (e .entry)) ⌝ }
+    ensures { λ r. ⌜ (r, now (v .exit), now (d .exit), now (e .exit)) ≡ decomposed n limit edition (now (a .entry)) (now (v .entry), now (d .entry), now (e .entry)) ⌝ }
 {
     columns(n, a, v);
     tred2(n, v, d, e);
-    after_tred(n, limit, v, d, e)
+    after_tred(n, limit, edition, v, d, e)
 }
 
 // The run, with the vectors row by row where it is done.
 fn decompose_rows(
     n: usize,
     limit: usize,
+    edition: usize,
     a: &[f64],
     v: &mut [f64],
     d: &mut [f64],
     e: &mut [f64],
 ) -> Answer
     requires { ⌜ (0 < n) × (n ≤ 256) × (limit ≤ 60) × (length (now a) ≡ n * n) × Sized n (now v) (now d) (now e) ⌝ }
-    ensures { λ r. ⌜ (r, now (v .exit), now (d .exit), now (e .exit)) ≡ outward n (decomposed n limit (now (a .entry)) (now (v .entry), now (d .entry), now (e .entry))) ⌝ }
+    ensures { λ r. ⌜ (r, now (v .exit), now (d .exit), now (e .exit)) ≡ outward n (decomposed n limit edition (now (a .entry)) (now (v .entry), now (d .entry), now (e .entry))) ⌝ }
 {
-    let r = decompose(n, limit, a, v, d, e);
+    let r = decompose(n, limit, edition, a, v, d, e);
     if r.answer != 0 {
         return r;
     }
@@ -158,19 +167,33 @@ fn give(r: Answer, d: &[f64], work: &mut [f64], result: &mut [f64]) -> Answer
 }
 
 // The run with d in a local array, e in work and v in the part of the result behind the values.
-fn run(n: usize, limit: usize, a: &[f64], work: &mut [f64], result: &mut [f64]) -> Answer
+fn run(
+    n: usize,
+    limit: usize,
+    edition: usize,
+    a: &[f64],
+    work: &mut [f64],
+    result: &mut [f64],
+) -> Answer
     requires { ⌜ (0 < n) × (n ≤ 256) × (limit ≤ 60) × (length (now a) ≡ n * n) × (now work ≡ zeros n) × (now result ≡ zeros (n + n * n)) ⌝ }
-    ensures { λ r. ⌜ (r, now (work .exit), now (result .exit)) ≡ given n (decomposed n limit (now (a .entry)) (zeros (n * n), zeros n, zeros n)) ⌝ }
+    ensures { λ r. ⌜ (r, now (work .exit), now (result .exit)) ≡ given n (decomposed n limit edition (now (a .entry)) (zeros (n * n), zeros n, zeros n)) ⌝ }
 {
     let mut d = [0.0f64; LARGEST];
-    let r = decompose_rows(n, limit, a, &mut result[n..], &mut d[..n], work);
+    let r = decompose_rows(n, limit, edition, a, &mut result[n..], &mut d[..n], work);
     give(r, &d[..n], work, result)
 }
 
-// The call after its checks of sizes, limit and lengths.
-fn enter(n: usize, limit: usize, matrix: &[f64], work: &mut [f64], result: &mut [f64]) -> Answer
+// The call after its checks of sizes, limit, edition and lengths.
+fn enter(
+    n: usize,
+    limit: usize,
+    edition: usize,
+    matrix: &[f64],
+    work: &mut [f64],
+    result: &mut [f64],
+) -> Answer
     requires { ⌜ (n ≤ 256) × (limit ≤ 60) × (length (now matrix) ≡ n * n) × (length (now work) ≡ n) × (length (now result) ≡ n + n * n) ⌝ }
-    ensures { λ r. ⌜ (r, now (work .exit), now (result .exit)) ≡ entered n limit (now (matrix .entry)) ⌝ }
+    ensures { λ r. ⌜ (r, now (work .exit), now (result .exit)) ≡ entered n limit edition (now (matrix .entry)) ⌝ }
 {
     fill(work);
     fill(result);
@@ -181,17 +204,18 @@ fn enter(n: usize, limit: usize, matrix: &[f64], work: &mut [f64], result: &mut 
     if n == 0 {
         return done(0);
     }
-    run(n, limit, matrix, work, result)
+    run(n, limit, edition, matrix, work, result)
 }
 
 pub fn symmetric_eigen(
     n: usize,
     limit: usize,
+    edition: usize,
     matrix: &[f64],
     work: &mut [f64],
     result: &mut [f64],
 ) -> Answer
-    ensures { λ r. ⌜ (r, now (work .exit), now (result .exit)) ≡ eigen n limit (now (matrix .entry)) (now (work .entry)) (now (result .entry)) ⌝ }
+    ensures { λ r. ⌜ (r, now (work .exit), now (result .exit)) ≡ eigen n limit edition (now (matrix .entry)) (now (work .entry)) (now (result .entry)) ⌝ }
 {
     if n > LARGEST {
         return refused(1, 0);
@@ -199,9 +223,17 @@ pub fn symmetric_eigen(
     if !limit_good(limit) {
         return refused(2, 0);
     }
-    let x = lengths(matrix.len(), n * n, work.len(), n, result.len(), n + n * n);
+    let x = fitting_edition(
+        edition,
+        matrix.len(),
+        n * n,
+        work.len(),
+        n,
+        result.len(),
+        n + n * n,
+    );
     if x.answer != 0 {
         return x;
     }
-    enter(n, limit, matrix, work, result)
+    enter(n, limit, edition, matrix, work, result)
 }

@@ -12,9 +12,9 @@ use Rattle.text.specs.Writing.{answerText, badText}
 abbrev pub shownOf : ℕ → Answer × Vec × Vec → List ℕ
 shownOf n x = answerText (x .0 .answer) (x .0 .place) (x .0 .index) (x .0 .count) n (x .2)
 
--- the call, with work and result at +0.0
+-- the call, in edition 1, with work and result at +0.0
 unfoldable pub solved : ℕ → ℕ → Vec → List ℕ
-solved n limit a = shownOf n (eigen n limit a (zeros n) (zeros (n + n * n)))
+solved n limit a = shownOf n (eigen n limit 1 a (zeros n) (zeros (n + n * n)))
 
 abbrev pub replyOf : Text → List ℕ
 replyOf (good n limit ws) = solved n limit (map float ws)

@@ -27,7 +27,7 @@ bad-length = omega arith
 reply-of-most : (x : Text) → length (replyOf x) ≤ 18036
 unfolding solved
 reply-of-most (good n limit ws) =
-    let x = eigen n limit (map float ws) (zeros n) (zeros (n + n * n)) in
+    let x = eigen n limit 1 (map float ws) (zeros n) (zeros (n + n * n)) in
     answer-most (x .0 .answer) (x .0 .place) (x .0 .index) (x .0 .count) n (x .2)
 reply-of-most bad = bad-length
 
@@ -51,11 +51,11 @@ zeros-front zero m h = refl
 zeros-front (suc n) zero h = absurd (not-suc-le-zero h)
 zeros-front (suc n) (suc m) h = ap (λ (l : Vec). zero64 ∷ l) (zeros-front n m (le-of-suc-le-suc h))
 
-pub solved-front : (n limit : ℕ) (a : Vec) → n ≤ 32 → shownOf n (eigen n limit a (take n (zeros 32)) (take (n + n * n) (zeros 1056))) ≡ solved n limit a
+pub solved-front : (n limit : ℕ) (a : Vec) → n ≤ 32 → shownOf n (eigen n limit 1 a (take n (zeros 32)) (take (n + n * n) (zeros 1056))) ≡ solved n limit a
 unfolding solved
 solved-front n limit a h =
-    ap (λ (w : Vec). shownOf n (eigen n limit a w (take (n + n * n) (zeros 1056)))) (zeros-front n 32 h)
-    ∙ ap (λ (r : Vec). shownOf n (eigen n limit a (zeros n) r)) (zeros-front (n + n * n) 1056 (words-most n h))
+    ap (λ (w : Vec). shownOf n (eigen n limit 1 a w (take (n + n * n) (zeros 1056)))) (zeros-front n 32 h)
+    ∙ ap (λ (r : Vec). shownOf n (eigen n limit 1 a (zeros n) r)) (zeros-front (n + n * n) 1056 (words-most n h))
 
 front : (old vs : Vec) (k : ℕ) → length vs ≡ k → k ≤ length old → take k (sets old 0 vs) ≡ vs
 front old vs k e h = ap (λ (l : Vec). take k l) (sets-eq vs old 0 (omega arith)) ∙ take-at vs (drop (0 + length vs) old) k e

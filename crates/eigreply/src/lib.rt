@@ -7,7 +7,7 @@ ghost use Rattle.eigen.specs.Eigen.{eigen};
 ghost use Rattle.eigreply.specs.Reply.{shownOf, solved, reply};
 use text::Reading;
 
-// The call, and its answer's text.
+// The call, in edition 1, and its answer's text.
 fn solve(
     n: usize,
     limit: usize,
@@ -16,9 +16,9 @@ fn solve(
     result: &mut [f64],
     out: &mut [u8],
 ) -> usize
-    ensures { λ r. ⌜ (r, now (out .exit)) ≡ written (shownOf n (eigen n limit (now (matrix .entry)) (now (work .entry)) (now (result .entry)))) (now (out .entry)) ⌝ }
+    ensures { λ r. ⌜ (r, now (out .exit)) ≡ written (shownOf n (eigen n limit 1 (now (matrix .entry)) (now (work .entry)) (now (result .entry)))) (now (out .entry)) ⌝ }
 {
-    let a = eigen::symmetric_eigen(n, limit, matrix, work, result);
+    let a = eigen::symmetric_eigen(n, limit, 1, matrix, work, result);
     textwrite::write(a.answer, a.place, a.index, a.count, n, result, out)
 }
 

@@ -14,7 +14,7 @@ use Rattle.grid.specs.Cell.{at2, entry}
 use Rattle.grid.specs.CellLaws.{Sized}
 use Rattle.leaves.specs.Scan.{isBad, firstBadLower}
 use Rattle.leaves.specs.ScanLaws.{lower-same}
-use Rattle.answers.specs.Answers.{done, passed, limitGood, lengths, refusal7}
+use Rattle.answers.specs.Answers.{done, passed, limitGood, fittingEdition, refusal7}
 use Rattle.answers.specs.OutcomeLaws.{right-limit, Settled, always, by-test}
 use Rattle.answers.specs.declared.Answer.{Answer}
 use Rattle.tred.specs.Tred.{tred2}
@@ -28,8 +28,8 @@ use Rattle.exact.specs.Exact.{Outcome, Promised, Fit}
 use Rattle.exact.specs.ExactLaws.{enters, given-answer, done-document}
 use Rattle.exact.specs.Result.{gave}
 
-one-outcome : (n limit : ℕ) (a work result : Vec) (x y : Outcome) → Promised n limit a work result x → Promised n limit a work result y → x ≡ y
-one-outcome n limit a work result x y p q = p ∙ sym q
+one-outcome : (n limit edition : ℕ) (a work result : Vec) (x y : Outcome) → Promised n limit edition a work result x → Promised n limit edition a work result y → x ≡ y
+one-outcome n limit edition a work result x y p q = p ∙ sym q
 
 -- ---- what stands above the diagonal
 
@@ -44,11 +44,11 @@ sized n a = record {
   beside = length-replicate n zero64;
 }
 
-decomposed-alike : (n limit : ℕ) (a b : Vec) → 0 < n → Alike n a b
-    → decomposed n limit a (zeros (n * n), zeros n, zeros n) ≡ decomposed n limit b (zeros (n * n), zeros n, zeros n)
+decomposed-alike : (n limit edition : ℕ) (a b : Vec) → 0 < n → Alike n a b
+    → decomposed n limit edition a (zeros (n * n), zeros n, zeros n) ≡ decomposed n limit edition b (zeros (n * n), zeros n, zeros n)
 unfolding decomposed
-decomposed-alike n limit a b z h =
-    ap (afterTred n limit) (lower n (columns n a v) (columns n b v) (zeros n) (zeros n) (zeros n) (zeros n) z (sized n a) (sized n b) cells)
+decomposed-alike n limit edition a b z h =
+    ap (afterTred n limit edition) (lower n (columns n a v) (columns n b v) (zeros n) (zeros n) (zeros n) (zeros n) z (sized n a) (sized n b) cells)
   where
     v : Vec
     v = zeros (n * n)
@@ -58,29 +58,29 @@ decomposed-alike n limit a b z h =
         let l : length v ≡ n * n = length-replicate (n * n) zero64 in
         columns-cell n a v i j l q (omega arith) ∙ h i j p q ∙ sym (columns-cell n b v i j l q (omega arith))
 
-entered-alike : (n limit : ℕ) (a b : Vec) → length a ≡ n * n → length b ≡ n * n → Alike n a b → entered n limit a ≡ entered n limit b
+entered-alike : (n limit edition : ℕ) (a b : Vec) → length a ≡ n * n → length b ≡ n * n → Alike n a b → entered n limit edition a ≡ entered n limit edition b
 unfolding entered
-entered-alike n limit a b la lb h = rw (lower-same n a b la lb h) (ap (λ (x : Outcome). cond (passed (refusal7 (firstBadLower n b))) x (cleared n (refusal7 (firstBadLower n b)))) (go (eqb n 0) refl))
+entered-alike n limit edition a b la lb h = rw (lower-same n a b la lb h) (ap (λ (x : Outcome). cond (passed (refusal7 (firstBadLower n b))) x (cleared n (refusal7 (firstBadLower n b)))) (go (eqb n 0) refl))
   where
     work : Vec → Outcome
-    work a = given n (decomposed n limit a (zeros (n * n), zeros n, zeros n))
+    work a = given n (decomposed n limit edition a (zeros (n * n), zeros n, zeros n))
 
     go : (t : Bool) → eqb n 0 ≡ t → cond (eqb n 0) (cleared n (done 0)) (work a) ≡ cond (eqb n 0) (cleared n (done 0)) (work b)
     go true e = rw e
-    go false e = ap (λ (x : Outcome). cond (eqb n 0) (cleared n (done 0)) x) (ap (given n) (decomposed-alike n limit a b (above (eqb-false n 0 e)) h))
+    go false e = ap (λ (x : Outcome). cond (eqb n 0) (cleared n (done 0)) x) (ap (given n) (decomposed-alike n limit edition a b (above (eqb-false n 0 e)) h))
       where
         above : (n ≡ 0 → ⊥) → 0 < n
         above d = omega arith
 
-lower-only : (n limit : ℕ) (a b work result work′ result′ : Vec) → Fit n limit a work result → Fit n limit b work′ result′ → Alike n a b
-    → eigen n limit a work result ≡ eigen n limit b work′ result′
-lower-only n limit a b work result work′ result′ f g h =
-    enters n limit a work result f ∙ entered-alike n limit a b (f .square) (g .square) h ∙ sym (enters n limit b work′ result′ g)
+lower-only : (n limit edition : ℕ) (a b work result work′ result′ : Vec) → Fit n limit edition a work result → Fit n limit edition b work′ result′ → Alike n a b
+    → eigen n limit edition a work result ≡ eigen n limit edition b work′ result′
+lower-only n limit edition a b work result work′ result′ f g h =
+    enters n limit edition a work result f ∙ entered-alike n limit edition a b (f .square) (g .square) h ∙ sym (enters n limit edition b work′ result′ g)
 
 -- of two calls
-lower-only-calls : (n limit : ℕ) (a b work result work′ result′ : Vec) (x y : Outcome) → Fit n limit a work result → Fit n limit b work′ result′ → Alike n a b
-    → Promised n limit a work result x → Promised n limit b work′ result′ y → x ≡ y
-lower-only-calls n limit a b work result work′ result′ x y f g h p q = p ∙ lower-only n limit a b work result work′ result′ f g h ∙ sym q
+lower-only-calls : (n limit edition : ℕ) (a b work result work′ result′ : Vec) (x y : Outcome) → Fit n limit edition a work result → Fit n limit edition b work′ result′ → Alike n a b
+    → Promised n limit edition a work result x → Promised n limit edition b work′ result′ y → x ≡ y
+lower-only-calls n limit edition a b work result work′ result′ x y f g h p q = p ∙ lower-only n limit edition a b work result work′ result′ f g h ∙ sym q
 
 -- ---- a higher limit
 
@@ -90,54 +90,54 @@ answer3 x = x .0 .answer
 abbrev answer4 : Answer × Vec × Vec × Vec → ℕ
 answer4 x = x .0 .answer
 
-tred-limit : (n k m : ℕ) (x : Vec × Vec × Vec) → 1 ≤ k → k ≤ m → Settled answer4 (afterTred n k x) (afterTred n m x)
+tred-limit : (n edition k m : ℕ) (x : Vec × Vec × Vec) → 1 ≤ k → k ≤ m → Settled answer4 (afterTred n k edition x) (afterTred n m edition x)
 unfolding afterTred
-tred-limit n k m x z l = by-test answer4 (isBad (mark0 n (x .0) (x .1) (x .2))) _ refl (always answer4) (record { same = tql2-limit n k m x z l })
+tred-limit n edition k m x z l = by-test answer4 (isBad (mark0 n (x .0) (x .1) (x .2))) _ refl (always answer4) (record { same = tql2-limit n edition k m x z l })
 
 given-limit : (n : ℕ) (x y : Answer × Vec × Vec × Vec) → Settled answer4 x y → Settled answer3 (given n x) (given n y)
 given-limit n x y s = record { same = λ h. ap (given n) (s .same (λ e. h (ap (λ (t : Answer). t .answer) (given-answer n x) ∙ e))) }
 
-entered-limit : (n k m : ℕ) (a : Vec) → 1 ≤ k → k ≤ m → Settled answer3 (entered n k a) (entered n m a)
+entered-limit : (n edition k m : ℕ) (a : Vec) → 1 ≤ k → k ≤ m → Settled answer3 (entered n k edition a) (entered n m edition a)
 unfolding entered decomposed
-entered-limit n k m a z l =
+entered-limit n edition k m a z l =
     by-test answer3 (passed (refusal7 (firstBadLower n a))) _ refl
-    (by-test answer3 (eqb n 0) _ refl (always answer3) (given-limit n _ _ (tred-limit n k m _ z l)))
+    (by-test answer3 (eqb n 0) _ refl (always answer3) (given-limit n _ _ (tred-limit n edition k m _ z l)))
     (always answer3)
 
-eigen-limit : (n k m : ℕ) (a work result : Vec) → 1 ≤ k → k ≤ m → m ≤ 60 → Settled answer3 (eigen n k a work result) (eigen n m a work result)
+eigen-limit : (n edition k m : ℕ) (a work result : Vec) → 1 ≤ k → k ≤ m → m ≤ 60 → Settled answer3 (eigen n k edition a work result) (eigen n m edition a work result)
 unfolding eigen
-eigen-limit n k m a work result z l s =
+eigen-limit n edition k m a work result z l s =
     by-test answer3 (ltb 256 n) _ refl (always answer3)
     (by-test answer3 (not (limitGood k)) _ (ap not (right-limit k z (omega arith) ∙ sym (right-limit m (omega arith) s))) (always answer3)
-    (by-test answer3 (passed (lengths (length a) (n * n) (length work) n (length result) (n + n * n))) _ refl (entered-limit n k m a z l) (always answer3)))
+    (by-test answer3 (passed (fittingEdition edition (length a) (n * n) (length work) n (length result) (n + n * n))) _ refl (entered-limit n edition k m a z l) (always answer3)))
 
-limit-raised : (n k m : ℕ) (a work result : Vec) → 1 ≤ k → k ≤ m → m ≤ 60 → (eigen n k a work result .0 .answer ≡ 9 → ⊥)
-    → eigen n m a work result ≡ eigen n k a work result
-limit-raised n k m a work result z l s = eigen-limit n k m a work result z l s .same
+limit-raised : (n edition k m : ℕ) (a work result : Vec) → 1 ≤ k → k ≤ m → m ≤ 60 → (eigen n k edition a work result .0 .answer ≡ 9 → ⊥)
+    → eigen n m edition a work result ≡ eigen n k edition a work result
+limit-raised n edition k m a work result z l s = eigen-limit n edition k m a work result z l s .same
 
 -- of two calls
-limit-raised-calls : (n k m : ℕ) (a work result : Vec) (x y : Outcome) → 1 ≤ k → k ≤ m → m ≤ 60
-    → Promised n k a work result x → Promised n m a work result y → (x .0 .answer ≡ 9 → ⊥) → y ≡ x
-limit-raised-calls n k m a work result x y z l s p q h = q ∙ limit-raised n k m a work result z l s (λ e. h (ap (λ (t : Outcome). t .0 .answer) p ∙ e)) ∙ sym p
+limit-raised-calls : (n edition k m : ℕ) (a work result : Vec) (x y : Outcome) → 1 ≤ k → k ≤ m → m ≤ 60
+    → Promised n k edition a work result x → Promised n m edition a work result y → (x .0 .answer ≡ 9 → ⊥) → y ≡ x
+limit-raised-calls n edition k m a work result x y z l s p q h = q ∙ limit-raised n edition k m a work result z l s (λ e. h (ap (λ (t : Outcome). t .0 .answer) p ∙ e)) ∙ sym p
 
 -- ---- marks and the limit
 
 -- a result that is document 000's: its values, and its vectors row by row behind them
-record Documents (n : ℕ) (a result : Vec) : Type 0 where
+record Documents (n edition : ℕ) (a result : Vec) : Type 0 where
   values : Vec
   vectors : Vec
-  eigens : SymmetricEigen n a values vectors
+  eigens : SymmetricEigen n edition a values vectors
   whole : result ≡ values ++ vectors
 
-marks-only-stop : (n limit : ℕ) (a work result : Vec) → eigen n limit a work result .0 .answer ≡ 0 → Documents n a (eigen n limit a work result .2)
-marks-only-stop n limit a work result z =
-    let s = gave n limit a work result z in
-    record { values = s .values; vectors = s .vectors; eigens = done-document n limit a _ _ _ (s .exactly); whole = s .whole }
+marks-only-stop : (n limit edition : ℕ) (a work result : Vec) → eigen n limit edition a work result .0 .answer ≡ 0 → Documents n edition a (eigen n limit edition a work result .2)
+marks-only-stop n limit edition a work result z =
+    let s = gave n limit edition a work result z in
+    record { values = s .values; vectors = s .vectors; eigens = done-document n limit edition a _ _ _ (s .exactly); whole = s .whole }
 
 -- so where document 000 has a result, and the call is done, that is the call's
-marks-only-stop-calls : (n limit : ℕ) (a work result values vectors : Vec) (x : Outcome) → Promised n limit a work result x → x .0 .answer ≡ 0
-    → SymmetricEigen n a values vectors → x .2 ≡ values ++ vectors
-marks-only-stop-calls n limit a work result values vectors x p q s =
-    let d = marks-only-stop n limit a work result (ap (λ (t : Outcome). t .0 .answer) (sym p) ∙ q) in
-    let o = symmetric-eigen-once n a (d .values) (d .vectors) values vectors (d .eigens) s in
+marks-only-stop-calls : (n limit edition : ℕ) (a work result values vectors : Vec) (x : Outcome) → Promised n limit edition a work result x → x .0 .answer ≡ 0
+    → SymmetricEigen n edition a values vectors → x .2 ≡ values ++ vectors
+marks-only-stop-calls n limit edition a work result values vectors x p q s =
+    let d = marks-only-stop n limit edition a work result (ap (λ (t : Outcome). t .0 .answer) (sym p) ∙ q) in
+    let o = symmetric-eigen-once n edition a (d .values) (d .vectors) values vectors (d .eigens) s in
     ap (λ (t : Outcome). t .2) p ∙ d .whole ∙ (λ i. o .0 i ++ o .1 i)

@@ -11,14 +11,14 @@ use Rattle.told.specs.Document.{Tql2}
 use Rattle.eigen.specs.Eigen.{columns}
 
 -- n above 0. v starts as the whole matrix, d and e as zeros; the values are d in the end, and entry (i, j) of the vectors is cell (i, j) of v
-pub record Computed (n : ℕ) (a values vectors : Vec) : Type 0 where
+pub record Computed (n edition : ℕ) (a values vectors : Vec) : Type 0 where
   pub some : 0 < n
   pub last : Vec × Vec × Vec
-  pub ran : Tql2 n (tred2 n (columns n a (zeros (n * n)), zeros n, zeros n)) last
+  pub ran : Tql2 n edition (tred2 n (columns n a (zeros (n * n)), zeros n, zeros n)) last
   pub values-are : let (v, d, e) = last in values ≡ d
   pub long : length vectors ≡ n * n
   pub vectors-are : let (v, d, e) = last in (i j : ℕ) → i < n → j < n → entry vectors n i j ≡ at2 v n i j
 
-pub data SymmetricEigen (n : ℕ) (a values vectors : Vec) : Type 0 where
-  empty : n ≡ 0 → values ≡ [] → vectors ≡ [] → SymmetricEigen n a values vectors
-  computed : Computed n a values vectors → SymmetricEigen n a values vectors
+pub data SymmetricEigen (n edition : ℕ) (a values vectors : Vec) : Type 0 where
+  empty : n ≡ 0 → values ≡ [] → vectors ≡ [] → SymmetricEigen n edition a values vectors
+  computed : Computed n edition a values vectors → SymmetricEigen n edition a values vectors

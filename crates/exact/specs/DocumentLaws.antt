@@ -15,12 +15,12 @@ pub same-vectors : (n : ℕ) (v w : Vec) → 0 < n → length v ≡ n * n → le
 same-vectors n v w z p q h = ext-getD nan v w (p ∙ sym q)
     (λ k l. subst (λ (m : ℕ). at v m ≡ at w m) (div-add-mod' k n) (h (k / n) (k % n) (div-lt-iff-lt-mul z .1 (subst (λ (m : ℕ). k < m) p l)) (mod-lt k z)))
 
-pub symmetric-eigen-once : (n : ℕ) (a d v e w : Vec) → SymmetricEigen n a d v → SymmetricEigen n a e w → (d ≡ e) × (v ≡ w)
-symmetric-eigen-once n a d v e w (empty z p q) (empty y r s) = (p ∙ sym r, q ∙ sym s)
-symmetric-eigen-once n a d v e w (empty z p q) (computed y) = absurd (omega (arith, y .some))
-symmetric-eigen-once n a d v e w (computed x) (empty y r s) = absurd (omega (arith, x .some))
-symmetric-eigen-once n a d v e w (computed x) (computed y) =
-    let o = tql2-once n _ (x .last) (y .last) (x .ran) (y .ran) in (
+pub symmetric-eigen-once : (n edition : ℕ) (a d v e w : Vec) → SymmetricEigen n edition a d v → SymmetricEigen n edition a e w → (d ≡ e) × (v ≡ w)
+symmetric-eigen-once n edition a d v e w (empty z p q) (empty y r s) = (p ∙ sym r, q ∙ sym s)
+symmetric-eigen-once n edition a d v e w (empty z p q) (computed y) = absurd (omega (arith, y .some))
+symmetric-eigen-once n edition a d v e w (computed x) (empty y r s) = absurd (omega (arith, x .some))
+symmetric-eigen-once n edition a d v e w (computed x) (computed y) =
+    let o = tql2-once n edition _ (x .last) (y .last) (x .ran) (y .ran) in (
       x .values-are ∙ ap (λ (t : Vec × Vec × Vec). t .1) o ∙ sym (y .values-are),
       same-vectors n v w (x .some) (x .long) (y .long)
           (λ i j p q. x .vectors-are i j p q ∙ ap (λ (t : Vec × Vec × Vec). at2 (t .0) n i j) o ∙ sym (y .vectors-are i j p q)),

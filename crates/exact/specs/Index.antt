@@ -34,8 +34,8 @@ nan-of (fin t m e) s q = absurd (true≢false s)
 
 -- ---- 8 and 10
 
-module _ (n limit : ℕ) (a : Vec) where
-  first-points : (x : Vec) (b p i c : ℕ) → FirstIn x b i → Looked n limit a p c x → Points n limit a (answered b p i c)
+module _ (n limit edition : ℕ) (a : Vec) where
+  first-points : (x : Vec) (b p i c : ℕ) → FirstIn x b i → Looked n limit edition a p c x → Points n limit edition a (answered b p i c)
   first-points x b p i c f l =
       record {
         list = x;
@@ -46,28 +46,28 @@ module _ (n limit : ℕ) (a : Vec) where
         before = f .before;
       }
 
-  told-points : (o : Answer × Vec × Vec × Vec) → Told n limit (reduced n a) o → Class (o .0 .answer) → Points n limit a (o .0)
+  told-points : (o : Answer × Vec × Vec × Vec) → Told n limit edition (reduced n a) o → Class (o .0 .answer) → Points n limit edition a (o .0)
   told-points o (well r w) u = absurd (above-zero 0 u refl)
   told-points o (at-mark2 {c = c} {b = b} {i = i} {y = y} r f) u = first-points (list2 n y) b 2 i c f (after-last r)
-  told-points o (at-mark1 {l = l} {c = c} {k = k} {b = b} {i = i} {z = z} h r t) u = first-points (list1 z) b 1 i (c + k) (mark1-sees n limit l t) (after-pass h r t)
+  told-points o (at-mark1 {l = l} {c = c} {k = k} {b = b} {i = i} {z = z} h r t) u = first-points (list1 z) b 1 i (c + k) (mark1-sees n limit edition l t) (after-pass h r t)
   told-points o (at-limit h r t) u = absurd (not-nine 9 u refl)
 
-  says-points : (o : Outcome) → Says n limit a o → Class (o .0 .answer) → Points n limit a (o .0)
+  says-points : (o : Outcome) → Says n limit edition a o → Class (o .0 .answer) → Points n limit edition a (o .0)
   says-points o (nothing z) u = absurd (above-zero 0 u refl)
   says-points o (at-mark0 {b = b} {i = i} h) u = first-points (list0 n (reduced n a)) b 0 i 0 (h .seen) after-tred
   says-points o (runs {o = f} z s t) u =
       let g = given-answer n f in
-      subst (Points n limit a) (sym g) (told-points f t (subst (λ (x : Answer). Class (x .answer)) g u))
+      subst (Points n limit edition a) (sym g) (told-points f t (subst (λ (x : Answer). Class (x .answer)) g u))
 
   -- ---- every other answer
 
-  told-index : (o : Answer × Vec × Vec × Vec) → Told n limit (reduced n a) o → (Class (o .0 .answer) → ⊥) → o .0 .index ≡ 0
+  told-index : (o : Answer × Vec × Vec × Vec) → Told n limit edition (reduced n a) o → (Class (o .0 .answer) → ⊥) → o .0 .index ≡ 0
   told-index o (well r w) u = refl
   told-index o (at-mark2 {b = b} {i = i} {y = y} r f) u = absurd (u (first-class (list2 n y) b i f))
-  told-index o (at-mark1 {l = l} {b = b} {i = i} {z = z} h r t) u = absurd (u (first-class (list1 z) b i (mark1-sees n limit l t)))
+  told-index o (at-mark1 {l = l} {b = b} {i = i} {z = z} h r t) u = absurd (u (first-class (list1 z) b i (mark1-sees n limit edition l t)))
   told-index o (at-limit h r t) u = refl
 
-  says-index : (o : Outcome) → Says n limit a o → (Class (o .0 .answer) → ⊥) → o .0 .index ≡ 0
+  says-index : (o : Outcome) → Says n limit edition a o → (Class (o .0 .answer) → ⊥) → o .0 .index ≡ 0
   says-index o (nothing z) u = refl
   says-index o (at-mark0 {b = b} {i = i} h) u = absurd (u (first-class (list0 n (reduced n a)) b i (h .seen)))
   says-index o (runs {o = f} z s t) u =
@@ -75,15 +75,15 @@ module _ (n limit : ℕ) (a : Vec) where
       ap (λ (x : Answer). x .index) g ∙ told-index f t (λ v. u (subst (λ (x : Answer). Class (x .answer)) (sym g) v))
 
 -- **index-points**: on 8 and 10 the number at the index of what the place's mark looks at is infinite, or NaN, and every number before it is finite
-pub index-points : (n limit : ℕ) (a work result : Vec) → Class (eigen n limit a work result .0 .answer) → Points n limit a (eigen n limit a work result .0)
-index-points n limit a work result u = ⊎-elim (λ f. says-points n limit a _ (says n limit a work result f) u) (λ r. absurd (⊎-elim (λ e. few e (r .few)) (λ e. more e (r .few)) u)) (checked n limit a work result)
+pub index-points : (n limit edition : ℕ) (a work result : Vec) → Class (eigen n limit edition a work result .0 .answer) → Points n limit edition a (eigen n limit edition a work result .0)
+index-points n limit edition a work result u = ⊎-elim (λ f. says-points n limit edition a _ (says n limit edition a work result f) u) (λ r. absurd (⊎-elim (λ h. few h u) (λ h. other h u) (r .few))) (checked n limit edition a work result)
   where
-    few : {k : ℕ} → k ≡ 8 → k ≤ 7 → ⊥
-    few e h = omega arith
+    few : {k : ℕ} → k ≤ 7 → Class k → ⊥
+    few h = ⊎-elim (λ e. omega arith) (λ e. omega arith)
 
-    more : {k : ℕ} → k ≡ 10 → k ≤ 7 → ⊥
-    more e h = omega arith
+    other : {k : ℕ} → k ≡ 12 → Class k → ⊥
+    other h = ⊎-elim (λ e. omega arith) (λ e. omega arith)
 
 -- **index-zero**: on every other answer it is 0
-pub index-zero : (n limit : ℕ) (a work result : Vec) → (Class (eigen n limit a work result .0 .answer) → ⊥) → eigen n limit a work result .0 .index ≡ 0
-index-zero n limit a work result u = ⊎-elim (λ f. says-index n limit a _ (says n limit a work result f) u) (λ r. r .none) (checked n limit a work result)
+pub index-zero : (n limit edition : ℕ) (a work result : Vec) → (Class (eigen n limit edition a work result .0 .answer) → ⊥) → eigen n limit edition a work result .0 .index ≡ 0
+index-zero n limit edition a work result u = ⊎-elim (λ f. says-index n limit edition a _ (says n limit edition a work result f) u) (λ r. r .none) (checked n limit edition a work result)

@@ -8,3 +8,4 @@ pub mod ExactLaws
 pub mod Index
 pub mod Result
 pub mod Old
+pub mod Edition

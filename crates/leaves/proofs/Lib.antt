@@ -1,14 +1,14 @@
--- What the functions' proofs share, and the theorems about `root`: `Nearest`, `Neighbours`.
-mod Whole
-mod Fields
-mod School
+-- What the functions' proofs share, and the theorems about `root`: `Nearest`, `Neighbours`. The crate `hypot2` cites those that are `pub`.
+pub mod Whole
+pub mod Fields
+pub mod School
 mod Pencil
-mod Patterns
-mod Middle
-mod Worked
-mod Rounds
+pub mod Patterns
+pub mod Middle
+pub mod Worked
+pub mod Rounds
 mod Nearest
-mod Neighbours
+pub mod Neighbours
 mod Sign
 mod Search
 mod Class

@@ -76,7 +76,7 @@ halves p h k l g =
     one : (k : ℕ) → 1 + k ≡ suc k
     one k = omega arith
 
-next-above : (q h p k : ℕ) → 2 ^ 52 ≤ q → p < 2 ^ 53 → q * 2 ^ h < p * 2 ^ k → q * 2 ^ h + 2 ^ h ≤ p * 2 ^ k
+pub next-above : (q h p k : ℕ) → 2 ^ 52 ≤ q → p < 2 ^ 53 → q * 2 ^ h < p * 2 ^ k → q * 2 ^ h + 2 ^ h ≤ p * 2 ^ k
 next-above q h p k Q P l = go (decLe h k)
   where
     far : (a y x : ℕ) → 2 ^ 52 * x ≤ a → 2 * y ≤ (2 ^ 53 - 1) * x → a < y → ⊥
@@ -90,7 +90,7 @@ next-above q h p k Q P l = go (decLe h k)
         omega (arith, e, v, suc-mul q (2 ^ h))
     go (no f) = absurd (far (q * 2 ^ h) (p * 2 ^ k) (2 ^ h) (mul-le-mul-right (2 ^ h) Q) (halves p h k P (lt-of-not-le f)) l)
 
-next-below : (q h p k : ℕ) → p < 2 ^ 53 → p * 2 ^ k < q * 2 ^ h → (p * 2 ^ k + 2 ^ h ≤ q * 2 ^ h) ⊎ (2 * (p * 2 ^ k) ≤ (2 ^ 53 - 1) * 2 ^ h)
+pub next-below : (q h p k : ℕ) → p < 2 ^ 53 → p * 2 ^ k < q * 2 ^ h → (p * 2 ^ k + 2 ^ h ≤ q * 2 ^ h) ⊎ (2 * (p * 2 ^ k) ≤ (2 ^ 53 - 1) * 2 ^ h)
 next-below q h p k P l = go (decLe h k)
   where
     go : Dec (h ≤ k) → (p * 2 ^ k + 2 ^ h ≤ q * 2 ^ h) ⊎ (2 * (p * 2 ^ k) ≤ (2 ^ 53 - 1) * 2 ^ h)

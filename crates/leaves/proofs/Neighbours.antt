@@ -38,7 +38,7 @@ next-field (suc x) t h = subst (λ (y : ℕ). (2 ^ 52 + t) * 2 ^ x < units-of y 
     less : 2 ^ 52 + t < 2 ^ 52 * 2
     less = omega arith
 
-val-step : (b : ℕ) → val b < val (b + 1)
+pub val-step : (b : ℕ) → val b < val (b + 1)
 val-step b =
     let x = b / 2 ^ 52 in
     let t = b % 2 ^ 52 in
@@ -69,16 +69,16 @@ val-more b (suc k) =
     let e : b + k + 1 ≡ b + suc k = omega arith in
     le-trans (val-more b k) (le-trans (le-of-lt (val-step (b + k))) (le-of-eq (ap val e)))
 
-val-mono : (b c : ℕ) → b ≤ c → val b ≤ val c
+pub val-mono : (b c : ℕ) → b ≤ c → val b ≤ val c
 val-mono b c h =
     let e : b + (c - b) ≡ c = omega arith in
     rw e at (val-more b (c - b))
 
-val-back : (b c : ℕ) → val b < val c → b < c
+pub val-back : (b c : ℕ) → val b < val c → b < c
 val-back b c h = lt-of-not-le (λ (g : c ≤ b). not-le-of-lt h (val-mono c b g))
 
 -- the units of a pattern
-pattern-units : (b : ℕ) → b < 0x7ff0_0000_0000_0000 → units (ofBits binary64 b) ≡ val b
+pub pattern-units : (b : ℕ) → b < 0x7ff0_0000_0000_0000 → units (ofBits binary64 b) ≡ val b
 pattern-units b h = units-are (ofBits binary64 b) false (val b) (bits-value b h)
 
 -- of a double above zero

@@ -22,12 +22,12 @@ use Rattle.leaves.proofs.Fields.{val, split}
 use Rattle.leaves.proofs.Patterns.{bits-value}
 
 -- ---- what `compare` says
-abbrev Cmp : Ordering → ℕ → ℕ → Type 0
+abbrev pub Cmp : Ordering → ℕ → ℕ → Type 0
 Cmp Ordering·lt a b = a < b
 Cmp Ordering·eq a b = a ≡ b
 Cmp Ordering·gt a b = b < a
 
-cmp : (a b : ℕ) → Cmp (compare a b) a b
+pub cmp : (a b : ℕ) → Cmp (compare a b) a b
 cmp a b = go (compare a b) (leb→le a b) (nleb→lt a b) (eqb→eq a b) (λ (e : a ≡ b). subst (λ (x : ℕ). T (eqb a x)) e (eqb-refl a))
   where
     go : (o : Ordering) → (T (isLe o) → a ≤ b) → (T (not (isLe o)) → b < a) → (T (isEq o) → a ≡ b) → (a ≡ b → T (isEq o)) → Cmp o a b
@@ -35,7 +35,7 @@ cmp a b = go (compare a b) (leb→le a b) (nleb→lt a b) (eqb→eq a b) (λ (e 
     go Ordering·eq h k e n = e tt
     go Ordering·gt h k e n = k tt
 
-nearest-down : (t a b : ℕ) → a < b → nearest t (compare a b) ≡ t
+pub nearest-down : (t a b : ℕ) → a < b → nearest t (compare a b) ≡ t
 nearest-down t a b h = go (compare a b) (cmp a b)
   where
     go : (o : Ordering) → Cmp o a b → nearest t o ≡ t
@@ -46,7 +46,7 @@ nearest-down t a b h = go (compare a b) (cmp a b)
         le-of-lt' : {x y : ℕ} → x < y → x ≤ y
         le-of-lt' h = omega arith
 
-nearest-up : (t a b : ℕ) → b < a → nearest t (compare a b) ≡ suc t
+pub nearest-up : (t a b : ℕ) → b < a → nearest t (compare a b) ≡ suc t
 nearest-up t a b h = go (compare a b) (cmp a b)
   where
     bad : (x y : ℕ) → x < y → y < x → ⊥
@@ -60,7 +60,7 @@ nearest-up t a b h = go (compare a b) (cmp a b)
 -- ---- the middle of the stretch from S to S + 1, for an S that begins with the digits s: in units of 4 * H it rounds to (s + 1) / 2
 
 -- a number in quotient and remainder
-closest-of : (t r b : ℕ) → r < b → closest (t * b + r) b ≡ nearest t (compare (r * 2) b)
+pub closest-of : (t r b : ℕ) → r < b → closest (t * b + r) b ≡ nearest t (compare (r * 2) b)
 closest-of t r b h = ap (λ (x : ℕ). nearest x (compare ((t * b + r) % b * 2) b)) (digits-div t h) ∙ ap (λ (x : ℕ). nearest t (compare (x * 2) b)) (digits-mod t h)
 
 middle : (s H S : ℕ) → s * H ≤ S → S < s * H + H → closest (2 * S + 1) (4 * H) ≡ (s + 1) / 2
@@ -96,7 +96,7 @@ middle s H S lo hi = go (s % 2) refl
 
 -- ---- how many digits `round` drops
 
-drop-is : (h w : ℕ) → 2 ^ 52 * 2 ^ h ≤ w → w < 2 ^ 53 * 2 ^ h → size w - 53 ≡ h
+pub drop-is : (h w : ℕ) → 2 ^ 52 * 2 ^ h ≤ w → w < 2 ^ 53 * 2 ^ h → size w - 53 ≡ h
 drop-is h w lo hi =
     let a : size w ≤ 53 + h = size-le w (53 + h) (lt-of-lt-of-le hi (le-of-eq (sym (pow-add 2 53 h)))) in
     let b : 52 + h < size w =
@@ -104,10 +104,10 @@ drop-is h w lo hi =
     omega arith
 
 -- `omega` takes no number of more than 38 digits, so 2 ^ 1074 is a variable here
-scaled-le : (a b K : ℕ) → a * 4 ≤ b → a * (4 * K) ≤ b * K
+pub scaled-le : (a b K : ℕ) → a * 4 ≤ b → a * (4 * K) ≤ b * K
 scaled-le a b K h = le-trans (le-of-eq (sym (mul-assoc a 4 K))) (mul-le-mul-right K h)
 
-scaled-lt : (a b K : ℕ) → 0 < K → b < a * 4 → b * K < a * (4 * K)
+pub scaled-lt : (a b K : ℕ) → 0 < K → b < a * 4 → b * K < a * (4 * K)
 scaled-lt a b K P h = lt-of-lt-of-le (mul-lt-mul-of-pos-right h P) (le-of-eq (mul-assoc a 4 K))
 
 grid-is : (h s S : ℕ) → 2 ^ 53 ≤ s → s < 2 ^ 54 → s * 2 ^ h ≤ S → S < s * 2 ^ h + 2 ^ h → grid binary64 (2 * S + 1) (2 ^ 1076) ≡ (s + 1) / 2 * 2 ^ h

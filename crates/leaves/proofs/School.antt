@@ -20,11 +20,11 @@ twice b i = ap (λ (x : ℕ). b * x) (pow-suc 2 i) ∙ sym (mul-assoc b (2 ^ i) 
 
 -- After i turns: the digits that came down are s * s and a remainder, and the others are in a. m is the number at first, with 62 digits still to come, and b above the root
 -- at first.
-record Stand (m b i a : ℕ) (w : Found) : Type 0 where
-  rest : w .r ≤ w .s * 2
-  word : a < 2 ^ 62
-  small : w .s + 1 ≤ b * 2 ^ i
-  sum : (w .s * w .s + w .r) * 2 ^ 62 + a ≡ m * 4 ^ i
+pub record Stand (m b i a : ℕ) (w : Found) : Type 0 where
+  pub rest : w .r ≤ w .s * 2
+  pub word : a < 2 ^ 62
+  pub small : w .s + 1 ≤ b * 2 ^ i
+  pub sum : (w .s * w .s + w .r) * 2 ^ 62 + a ≡ m * 4 ^ i
 
 stand : (m b i a s r : ℕ) (z : Bool) → Stand m b i a (record { s = s; r = r }) → (T z → r * 4 + a / 2 ^ 60 < s * 4 + 1) → (T (not z) → s * 4 + 1 ≤ r * 4 + a / 2 ^ 60)
     → Stand m b (suc i) (a % 2 ^ 60 * 4) (cond z (record { s = s * 2; r = r * 4 + a / 2 ^ 60 }) (record { s = s * 2 + 1; r = r * 4 + a / 2 ^ 60 - (s * 4 + 1) }))
@@ -47,7 +47,7 @@ stand m b i a s r false st less more = record {
     four : m * 4 ^ suc i ≡ m * 4 ^ i * 4
     four = ap (λ (x : ℕ). m * x) (pow-suc 4 i) ∙ sym (mul-assoc m (4 ^ i) 4)
 
-stands : (m b k i a : ℕ) (w : Found) → Stand m b i a w → (c : ℕ) × Stand m b (i + k) c (digits k a w)
+pub stands : (m b k i a : ℕ) (w : Found) → Stand m b i a w → (c : ℕ) × Stand m b (i + k) c (digits k a w)
 unfolding digits turn
 stands m b zero i a w st = (a, rw (add-none i) st)
   where

@@ -169,7 +169,7 @@ root-range b p l = worked b p l .range
 -- ---- one double for a number of units
 
 -- a finite double that is not negative, from its units
-from-units : (r : Float) → T (counted r) → toBits binary64 r ≡ 0 + (size (units r) - 53) * 2 ^ 52 + units r / 2 ^ (size (units r) - 53)
+pub from-units : (r : Float) → T (counted r) → toBits binary64 r ≡ 0 + (size (units r) - 53) * 2 ^ 52 + units r / 2 ^ (size (units r) - 53)
 unfolding toBits
 from-units (fin false m e) c = refl
 

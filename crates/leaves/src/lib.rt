@@ -69,9 +69,9 @@ fn paired(m: u64, x: u64) -> u64
 }
 
 // The root so far, and what is left over of the digits brought down.
-struct Found {
-    s: u64,
-    r: u64,
+pub struct Found {
+    pub s: u64,
+    pub r: u64,
 }
 
 // What the next digit takes off when two digits more have come down: t where it goes into d with those two, else nothing. Here and below a select, no branch, which a
@@ -100,7 +100,7 @@ fn next(d: u64, t: u64, up: u64) -> u64
 // with zeros. d is what is left over, with two digits brought down behind it. A digit 1 takes off the root with 01 behind it, and t is that two places further up. A
 // turn tries the next digit, keeps the remainder, and brings down two digits. Nothing is kept waiting: d is moved up before it is known what is taken off, and up is
 // what t becomes where the digit is 1.
-fn digits(s: u64, r: u64, n: u64, k: u64) -> Found
+pub fn digits(s: u64, r: u64, n: u64, k: u64) -> Found
     requires { ⌜ (r ≤ s * 2) × (n < 2 ^ 62) × ((s + 1) * 2 ^ k ≤ 2 ^ 57) ⌝ }
     ensures { λ w. ⌜ w ≡ digits k n (record { s = s; r = r }) ⌝ }
 {

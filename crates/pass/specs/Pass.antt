@@ -1,5 +1,5 @@
 -- One QL pass of document 000's `tql2`, operation for operation, and what is looked at after it. Definitions only.
--- v is the n by n matrix, column by column. What a step changes comes last, in the order v, d, e, and in front of them the record or number that goes with it.
+-- The hypot in it is that of the edition. v is the n by n matrix, column by column. What a step changes comes last, in the order v, d, e, and in front of them the record or number that goes with it.
 use mathlib.Core.Bool.{Bool, cond}
 use mathlib.Core.List.{_++_}
 use Prim.Native.Nat.{ℕ, _+_}
@@ -8,31 +8,28 @@ use lib.ListN.{set}
 use Rattle.grid.specs.Loop.{upto, fall}
 use Rattle.grid.specs.Real.{Vec, zero64, one64, two64, epsilon, at, _⊕_, _⊖_, _⊗_, _⊘_}
 use Rattle.grid.specs.Cell.{at2, put2}
-use Rattle.leaves.specs.Leaf.{magnitude, hypot}
+use Rattle.leaves.specs.Leaf.{magnitude}
 use Rattle.leaves.specs.Scan.{firstBad}
 use Rattle.leaves.specs.declared.Bad.{Bad}
 use Rattle.leaves.specs.declared.Bad.the-variants.{At, Nowhere}
+use Rattle.hypot2.specs.Edition.{pythag}
 use Rattle.pass.specs.declared.Reason.{Reason}
 use Rattle.pass.specs.declared.Run.{Run}
 use Rattle.pass.specs.declared.Spin.{Spin}
 
 -- ---- the implicit shift
 
--- the hypot of tql2
-unfoldable pub pythag : Float → Float → Float
-pythag x y = hypot x y
-
 -- r, or -r where p is below 0
 unfoldable pub signed : Float → Float → Float
 signed p r = cond (lt p zero64) (neg r) r
 
 -- the shift at l: h and d
-unfoldable pub shift : ℕ → Vec → Vec → Float × Vec
-shift l d e =
+unfoldable pub shift : ℕ → ℕ → Vec → Vec → Float × Vec
+shift edition l d e =
     let g = at d l in
     let el = at e l in
     let p = (at d (l + 1) ⊖ g) ⊘ (two64 ⊗ el) in
-    let q = p ⊕ signed p (pythag p one64) in
+    let q = p ⊕ signed p (pythag edition p one64) in
     let dl = el ⊘ q in
     (g ⊖ dl, set (set d l dl) (l + 1) (el ⊗ q))
 
@@ -56,13 +53,13 @@ unfoldable pub rotated : ℕ → ℕ → Float → Float → Vec → Vec
 rotated n i c s v = upto (rotStep n i c s) 0 n v
 
 -- one turn, at i
-unfoldable pub spin : ℕ → ℕ → Spin × Vec × Vec × Vec → Spin × Vec × Vec × Vec
-spin n i (q, v, d, e) =
+unfoldable pub spin : ℕ → ℕ → ℕ → Spin × Vec × Vec × Vec → Spin × Vec × Vec × Vec
+spin n edition i (q, v, d, e) =
     let di = at d i in
     let ei = at e i in
     let g = q .c ⊗ ei in
     let h = q .c ⊗ q .p in
-    let r = pythag (q .p) ei in
+    let r = pythag edition (q .p) ei in
     let s = ei ⊘ r in
     let c = q .p ⊘ r in
     let p = c ⊗ di ⊖ s ⊗ g in (
@@ -72,8 +69,8 @@ spin n i (q, v, d, e) =
       set e (i + 1) (q .s ⊗ r),
     )
 
-unfoldable pub spins : ℕ → ℕ → ℕ → Spin × Vec × Vec × Vec → Spin × Vec × Vec × Vec
-spins n l m x = fall (spin n) l m x
+unfoldable pub spins : ℕ → ℕ → ℕ → ℕ → Spin × Vec × Vec × Vec → Spin × Vec × Vec × Vec
+spins n edition l m x = fall (spin n edition) l m x
 
 -- what the first turn starts from
 abbrev pub still : Float → Spin
@@ -86,13 +83,13 @@ landed l q el1 dl1 (d, e) =
     (set d l (q .c ⊗ p), set e l (q .s ⊗ p))
 
 -- the body of document 000's loop at l and m, which adds h to f: h, v, d and e
-unfoldable pub transformed : ℕ → ℕ → ℕ → Vec × Vec × Vec → Float × Vec × Vec × Vec
-transformed n l m (v, d, e) =
-    let (h, d) = shift l d e in
+unfoldable pub transformed : ℕ → ℕ → ℕ → ℕ → Vec × Vec × Vec → Float × Vec × Vec × Vec
+transformed n edition l m (v, d, e) =
+    let (h, d) = shift edition l d e in
     let dl1 = at d (l + 1) in
     let d = lessened n l h d in
     let el1 = at e (l + 1) in
-    let (q, v, d, e) = spins n l m (still (at d m), v, d, e) in
+    let (q, v, d, e) = spins n edition l m (still (at d m), v, d, e) in
     let (d, e) = landed l q el1 dl1 (d, e) in
     (h, v, d, e)
 
@@ -134,7 +131,7 @@ abbrev pub afterPass : Run → Float → Reason → Run
 afterPass r h t =
     record { l = r .l; m = r .m; f = r .f ⊕ h; tst1 = r .tst1; passes = r .passes + 1; count = r .count + 1; stop = t .stop; index = t .index }
 
-unfoldable pub pass : ℕ → Run × Vec × Vec × Vec → Run × Vec × Vec × Vec
-pass n (r, v, d, e) =
-    let (h, v, d, e) = transformed n (r .l) (r .m) (v, d, e) in
+unfoldable pub pass : ℕ → ℕ → Run × Vec × Vec × Vec → Run × Vec × Vec × Vec
+pass n edition (r, v, d, e) =
+    let (h, v, d, e) = transformed n edition (r .l) (r .m) (v, d, e) in
     (afterPass r h (verdict (r .l) (r .tst1) d e), v, d, e)

@@ -1,18 +1,18 @@
-// One QL pass of `tql2` (EISPACK's, with the implicit shift) over the diagonal d, the subdiagonal e and the vectors v.
+// One QL pass of `tql2` (EISPACK's, with the implicit shift), with the hypot of an edition, over the diagonal d, the subdiagonal e and the vectors v.
 ghost use mathlib.Core.Path.{_≡_};
 ghost use Prim.Native.Nat.{_+_, _*_, _<_, _≤_, _^_};
 ghost use lib.ListN.{length};
 ghost use Rattle.grid.specs.CellLaws.{Sized};
-ghost use Rattle.pass.specs.Pass.{pythag, signed, shift, lessened, rotated, spin, spins, landed, transformed, mark1, settled, judged, verdict, pass};
+ghost use Rattle.pass.specs.Pass.{signed, shift, lessened, rotated, spin, spins, landed, transformed, mark1, settled, judged, verdict, pass};
 use grid::EPSILON;
 use grid::at;
 use grid::at1;
 use grid::put;
 use grid::put1;
+use hypot2::pythag;
 use leaves::Bad;
 use leaves::behind;
 use leaves::first_bad;
-use leaves::hypot;
 use leaves::is_bad;
 use leaves::magnitude;
 
@@ -45,13 +45,6 @@ pub struct Spin {
     pub p: f64,
 }
 
-// The one name by which `tql2` reaches hypot.
-fn pythag(x: f64, y: f64) -> f64
-    ensures { λ r. ⌜ r ≡ pythag x y ⌝ }
-{
-    hypot(x, y)
-}
-
 // r, with a minus where p is below 0.
 fn signed(p: f64, r: f64) -> f64
     ensures { λ g. ⌜ g ≡ signed p r ⌝ }
@@ -60,14 +53,14 @@ fn signed(p: f64, r: f64) -> f64
 }
 
 // The implicit shift at l: d[l] and d[l + 1] change, and h is given back.
-fn shift(l: usize, d: &mut [f64], e: &[f64]) -> f64
+fn shift(edition: usize, l: usize, d: &mut [f64], e: &[f64]) -> f64
     requires { ⌜ (l + 1 < length (now d)) × (l < length (now e)) ⌝ }
-    ensures { λ h. ⌜ (h, now (d .exit)) ≡ shift l (now (d .entry)) (now (e .entry)) ⌝ }
+    ensures { λ h. ⌜ (h, now (d .exit)) ≡ shift edition l (now (d .entry)) (now (e .entry)) ⌝ }
 {
     let g = at1(d, l);
     let el = at1(e, l);
     let p = (at1(d, l + 1) - g) / (2.0 * el);
-    let q = p + signed(p, pythag(p, 1.0));
+    let q = p + signed(p, pythag(edition, p, 1.0));
     let dl = el / q;
     put1(d, l, dl);
     put1(d, l + 1, el * q);
@@ -98,15 +91,23 @@ fn rotate(n: usize, i: usize, c: f64, s: f64, v: &mut [f64])
 }
 
 // One turn of the transformation, at i.
-fn spin_at(n: usize, i: usize, q: Spin, v: &mut [f64], d: &mut [f64], e: &mut [f64]) -> Spin
+fn spin_at(
+    n: usize,
+    edition: usize,
+    i: usize,
+    q: Spin,
+    v: &mut [f64],
+    d: &mut [f64],
+    e: &mut [f64],
+) -> Spin
     requires { ⌜ (i + 1 < n) × Sized n (now v) (now d) (now e) ⌝ }
-    ensures { λ r. ⌜ (r, now (v .exit), now (d .exit), now (e .exit)) ≡ spin n i (q, now (v .entry), now (d .entry), now (e .entry)) ⌝ }
+    ensures { λ r. ⌜ (r, now (v .exit), now (d .exit), now (e .exit)) ≡ spin n edition i (q, now (v .entry), now (d .entry), now (e .entry)) ⌝ }
 {
     let di = at1(d, i);
     let ei = at1(e, i);
     let g = q.c * ei;
     let h = q.c * q.p;
-    let r = pythag(q.p, ei);
+    let r = pythag(edition, q.p, ei);
     put1(e, i + 1, q.s * r);
     let s = ei / r;
     let c = q.p / r;
@@ -125,6 +126,7 @@ fn spin_at(n: usize, i: usize, q: Spin, v: &mut [f64], d: &mut [f64], e: &mut [f
 // The turns at m - 1, m - 2, .., l.
 fn spins(
     n: usize,
+    edition: usize,
     l: usize,
     m: usize,
     q0: Spin,
@@ -133,13 +135,13 @@ fn spins(
     e: &mut [f64],
 ) -> Spin
     requires { ⌜ (l ≤ m) × (m < n) × Sized n (now v) (now d) (now e) ⌝ }
-    ensures { λ r. ⌜ (r, now (v .exit), now (d .exit), now (e .exit)) ≡ spins n l m (q0, now (v .entry), now (d .entry), now (e .entry)) ⌝ }
+    ensures { λ r. ⌜ (r, now (v .exit), now (d .exit), now (e .exit)) ≡ spins n edition l m (q0, now (v .entry), now (d .entry), now (e .entry)) ⌝ }
 {
     let mut q = q0;
     let mut i = m;
     while i > l {
         i -= 1;
-        q = spin_at(n, i, q, v, d, e);
+        q = spin_at(n, edition, i, q, v, d, e);
     }
     q
 }
@@ -155,17 +157,26 @@ fn land(l: usize, q: Spin, el1: f64, dl1: f64, d: &mut [f64], e: &mut [f64])
 }
 
 // The body of document 000's loop, which adds the h given back to f.
-fn transform(n: usize, l: usize, m: usize, v: &mut [f64], d: &mut [f64], e: &mut [f64]) -> f64
+fn transform(
+    n: usize,
+    edition: usize,
+    l: usize,
+    m: usize,
+    v: &mut [f64],
+    d: &mut [f64],
+    e: &mut [f64],
+) -> f64
     requires { ⌜ (l < m) × (m < n) × Sized n (now v) (now d) (now e) ⌝ }
-    ensures { λ h. ⌜ (h, now (v .exit), now (d .exit), now (e .exit)) ≡ transformed n l m (now (v .entry), now (d .entry), now (e .entry)) ⌝ }
+    ensures { λ h. ⌜ (h, now (v .exit), now (d .exit), now (e .exit)) ≡ transformed n edition l m (now (v .entry), now (d .entry), now (e .entry)) ⌝ }
 {
-    let h = shift(l, d, e);
+    let h = shift(edition, l, d, e);
     let dl1 = at1(d, l + 1);
     lessen(n, l, h, d);
     let p = at1(d, m);
     let el1 = at1(e, l + 1);
     let q = spins(
         n,
+        edition,
         l,
         m,
         Spin {
@@ -225,11 +236,11 @@ fn verdict(l: usize, tst1: f64, d: &[f64], e: &[f64]) -> Reason
 }
 
 // One QL pass.
-pub fn pass(n: usize, r: Run, v: &mut [f64], d: &mut [f64], e: &mut [f64]) -> Run
+pub fn pass(n: usize, edition: usize, r: Run, v: &mut [f64], d: &mut [f64], e: &mut [f64]) -> Run
     requires { ⌜ (r .l < r .m) × (r .m < n) × (r .passes + 1 < 2 ^ 64) × (r .count + 1 < 2 ^ 64) × Sized n (now v) (now d) (now e) ⌝ }
-    ensures { λ q. ⌜ (q, now (v .exit), now (d .exit), now (e .exit)) ≡ pass n (r, now (v .entry), now (d .entry), now (e .entry)) ⌝ }
+    ensures { λ q. ⌜ (q, now (v .exit), now (d .exit), now (e .exit)) ≡ pass n edition (r, now (v .entry), now (d .entry), now (e .entry)) ⌝ }
 {
-    let h = transform(n, r.l, r.m, v, d, e);
+    let h = transform(n, edition, r.l, r.m, v, d, e);
     let t = verdict(r.l, r.tst1, d, e);
     Run {
         l: r.l,

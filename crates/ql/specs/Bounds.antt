@@ -57,9 +57,9 @@ pub record Passed (x y : State) : Type 0 where
   pub passes : y .0 .passes ≡ x .0 .passes + 1
   pub count : y .0 .count ≡ x .0 .count + 1
 
-pub one-pass : (n : ℕ) (x y : State) → y ≡ pass n x → Passed x y
+pub one-pass : (n edition : ℕ) (x y : State) → y ≡ pass n edition x → Passed x y
 unfolding pass
-one-pass n x y e =
+one-pass n edition x y e =
     record {
       l = ap (λ (s : State). s .0 .l) e;
       m = ap (λ (s : State). s .0 .m) e;
@@ -73,26 +73,26 @@ pub record Within (limit : ℕ) (x y : State) : Type 0 where
   pub l : y .0 .l ≡ x .0 .l
   pub count : y .0 .count ≤ x .0 .count + limit
 
-passes-within : (n limit : ℕ) (x : State) → Within limit x (rounds (pass n) ended limit x)
+passes-within : (n limit edition : ℕ) (x : State) → Within limit x (rounds (pass n edition) ended limit x)
 unfolding rounds
-passes-within n zero x = record { l = refl; count = omega arith }
-passes-within n (suc k) x = go (ended (pass n x)) (one-pass n x (pass n x) refl) (passes-within n k (pass n x))
+passes-within n zero edition x = record { l = refl; count = omega arith }
+passes-within n (suc k) edition x = go (ended (pass n edition x)) (one-pass n edition x (pass n edition x) refl) (passes-within n k edition (pass n edition x))
   where
-    go : (b : Bool) → Passed x (pass n x) → Within k (pass n x) (rounds (pass n) ended k (pass n x))
-        → Within (suc k) x (cond b (pass n x) (rounds (pass n) ended k (pass n x)))
+    go : (b : Bool) → Passed x (pass n edition x) → Within k (pass n edition x) (rounds (pass n edition) ended k (pass n edition x))
+        → Within (suc k) x (cond b (pass n edition x) (rounds (pass n edition) ended k (pass n edition x)))
     go true p w = record { l = p .l; count = omega arith }
     go false p w = record { l = cc; count = omega arith }
 
-pub iterated-within : (n limit : ℕ) (x : State) → Within limit x (iterated n limit x)
+pub iterated-within : (n limit edition : ℕ) (x : State) → Within limit x (iterated n limit edition x)
 unfolding iterated
-iterated-within n limit x = go (ended x)
+iterated-within n limit edition x = go (ended x)
   where
-    go : (b : Bool) → Within limit x (cond b x (rounds (pass n) ended limit x))
+    go : (b : Bool) → Within limit x (cond b x (rounds (pass n edition) ended limit x))
     go true = record { l = refl; count = omega arith }
-    go false = passes-within n limit x
+    go false = passes-within n limit edition x
 
-pub iterated-l : (n limit : ℕ) (x y : State) → y ≡ iterated n limit x → y .0 .l ≡ x .0 .l
-iterated-l n limit x y e = ap (λ (s : State). s .0 .l) e ∙ iterated-within n limit x .l
+pub iterated-l : (n limit edition : ℕ) (x y : State) → y ≡ iterated n limit edition x → y .0 .l ≡ x .0 .l
+iterated-l n limit edition x y e = ap (λ (s : State). s .0 .l) e ∙ iterated-within n limit edition x .l
 
 -- ---- one l
 
@@ -109,13 +109,13 @@ closed-count x = go (eqb (x .0 .stop) 1) (eqb (x .0 .stop) 0)
 abbrev come : ℕ → ℕ → State → State
 come n l x = (opened n l (x .0) (x .2) (x .3), x .1, x .2, x .3)
 
-pub turn-count : (n limit l : ℕ) (x : State) → turn n limit l x .0 .count ≤ x .0 .count + limit
+pub turn-count : (n limit edition l : ℕ) (x : State) → turn n limit edition l x .0 .count ≤ x .0 .count + limit
 unfolding turn stage opened
-turn-count n limit l x = go (ended x)
+turn-count n limit edition l x = go (ended x)
   where
-    go : (b : Bool) → cond b x (closed (iterated n limit (come n l x))) .0 .count ≤ x .0 .count + limit
+    go : (b : Bool) → cond b x (closed (iterated n limit edition (come n l x))) .0 .count ≤ x .0 .count + limit
     go true = omega arith
-    go false = omega (arith, closed-count (iterated n limit (come n l x)), iterated-within n limit (come n l x) .count)
+    go false = omega (arith, closed-count (iterated n limit edition (come n l x)), iterated-within n limit edition (come n l x) .count)
 
 -- ---- the sort
 

@@ -54,8 +54,8 @@ abbrev pub ended : State → Bool
 ended (r, v, d, e) = not (eqb (r .stop) going)
 
 -- at most so many passes at one l, until mark 1 or the convergence test ends them
-unfoldable pub iterated : ℕ → ℕ → State → State
-iterated n limit x = cond (ended x) x (rounds (pass n) ended limit x)
+unfoldable pub iterated : ℕ → ℕ → ℕ → State → State
+iterated n limit edition x = cond (ended x) x (rounds (pass n edition) ended limit x)
 
 -- the l that has settled: its value is d[l] + f
 abbrev pub released : State → State
@@ -68,15 +68,15 @@ closed (r, v, d, e) =
     (released (r, v, d, e))
     (cond (eqb (r .stop) going) (stopping r limitUsed, v, d, e) (r, v, d, e))
 
-unfoldable pub stage : ℕ → ℕ → ℕ → State → State
-stage n limit l (r, v, d, e) = closed (iterated n limit (opened n l r d e, v, d, e))
+unfoldable pub stage : ℕ → ℕ → ℕ → ℕ → State → State
+stage n limit edition l (r, v, d, e) = closed (iterated n limit edition (opened n l r d e, v, d, e))
 
 -- a run that has stopped stays as it is
-unfoldable pub turn : ℕ → ℕ → ℕ → State → State
-turn n limit l x = cond (ended x) x (stage n limit l x)
+unfoldable pub turn : ℕ → ℕ → ℕ → ℕ → State → State
+turn n limit edition l x = cond (ended x) x (stage n limit edition l x)
 
-unfoldable pub run : ℕ → ℕ → State → State
-run n limit x = upto (turn n limit) 0 n x
+unfoldable pub run : ℕ → ℕ → ℕ → State → State
+run n limit edition x = upto (turn n limit edition) 0 n x
 
 -- ---- the sort
 
@@ -123,5 +123,5 @@ finished n (r, v, d, e) =
     (marked 2 (r .count) (mark2 n v d), v, d, e)
     (let (v, d) = sorted n (v, d) in (done (r .count), v, d, e))))
 
-unfoldable pub tql2 : ℕ → ℕ → Vec × Vec × Vec → Answer × Vec × Vec × Vec
-tql2 n limit (v, d, e) = finished n (run n limit (fresh, v, d, movedUp n e))
+unfoldable pub tql2 : ℕ → ℕ → ℕ → Vec × Vec × Vec → Answer × Vec × Vec × Vec
+tql2 n limit edition (v, d, e) = finished n (run n limit edition (fresh, v, d, movedUp n e))

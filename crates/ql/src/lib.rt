@@ -89,16 +89,24 @@ fn begin(n: usize, l: usize, r: Run, d: &[f64], e: &[f64]) -> Run
 }
 
 // At most limit passes at the run's l.
-fn iterate(n: usize, limit: usize, r0: Run, v: &mut [f64], d: &mut [f64], e: &mut [f64]) -> Run
+fn iterate(
+    n: usize,
+    limit: usize,
+    edition: usize,
+    r0: Run,
+    v: &mut [f64],
+    d: &mut [f64],
+    e: &mut [f64],
+) -> Run
     requires { ⌜ (limit ≤ 60) × Ready n r0 × Sized n (now v) (now d) (now e) ⌝ }
-    ensures { λ q. ⌜ (q, now (v .exit), now (d .exit), now (e .exit)) ≡ iterated n limit (r0, now (v .entry), now (d .entry), now (e .entry)) ⌝ }
+    ensures { λ q. ⌜ (q, now (v .exit), now (d .exit), now (e .exit)) ≡ iterated n limit edition (r0, now (v .entry), now (d .entry), now (e .entry)) ⌝ }
 {
     if r0.stop != 0 {
         return r0;
     }
     let mut r = r0;
     while r.passes < limit {
-        r = pass(n, r, v, d, e);
+        r = pass(n, edition, r, v, d, e);
         if r.stop != 0 {
             return r;
         }
@@ -143,6 +151,7 @@ fn stopping(r: Run, stop: usize) -> Run
 fn turn(
     n: usize,
     limit: usize,
+    edition: usize,
     l: usize,
     r: Run,
     v: &mut [f64],
@@ -150,20 +159,20 @@ fn turn(
     e: &mut [f64],
 ) -> Run
     requires { ⌜ (l < n) × (limit ≤ 60) × (r .count + 60 < 2 ^ 64) × Sized n (now v) (now d) (now e) ⌝ }
-    ensures { λ q. ⌜ (q, now (v .exit), now (d .exit), now (e .exit)) ≡ turn n limit l (r, now (v .entry), now (d .entry), now (e .entry)) ⌝ }
+    ensures { λ q. ⌜ (q, now (v .exit), now (d .exit), now (e .exit)) ≡ turn n limit edition l (r, now (v .entry), now (d .entry), now (e .entry)) ⌝ }
 {
     if r.stop != 0 {
         return r;
     }
     let q = begin(n, l, r, d, e);
-    let t = iterate(n, limit, q, v, d, e);
+    let t = iterate(n, limit, edition, q, v, d, e);
     close(t, d, e)
 }
 
 // The run over all l.
-fn run(n: usize, limit: usize, v: &mut [f64], d: &mut [f64], e: &mut [f64]) -> Run
+fn run(n: usize, limit: usize, edition: usize, v: &mut [f64], d: &mut [f64], e: &mut [f64]) -> Run
     requires { ⌜ (n ≤ 256) × (limit ≤ 60) × Sized n (now v) (now d) (now e) ⌝ }
-    ensures { λ q. ⌜ (q, now (v .exit), now (d .exit), now (e .exit)) ≡ run n limit (fresh, now (v .entry), now (d .entry), now (e .entry)) ⌝ }
+    ensures { λ q. ⌜ (q, now (v .exit), now (d .exit), now (e .exit)) ≡ run n limit edition (fresh, now (v .entry), now (d .entry), now (e .entry)) ⌝ }
 {
     let mut r = Run {
         l: 0,
@@ -176,7 +185,7 @@ fn run(n: usize, limit: usize, v: &mut [f64], d: &mut [f64], e: &mut [f64]) -> R
         index: 0,
     };
     for l in 0..n {
-        r = turn(n, limit, l, r, v, d, e);
+        r = turn(n, limit, edition, l, r, v, d, e);
     }
     r
 }
@@ -270,11 +279,18 @@ fn finish(n: usize, r: Run, v: &mut [f64], d: &mut [f64]) -> Answer
     done(r.count)
 }
 
-pub fn tql2(n: usize, limit: usize, v: &mut [f64], d: &mut [f64], e: &mut [f64]) -> Answer
+pub fn tql2(
+    n: usize,
+    limit: usize,
+    edition: usize,
+    v: &mut [f64],
+    d: &mut [f64],
+    e: &mut [f64],
+) -> Answer
     requires { ⌜ (0 < n) × (n ≤ 256) × (limit ≤ 60) × Sized n (now v) (now d) (now e) ⌝ }
-    ensures { λ a. ⌜ (a, now (v .exit), now (d .exit), now (e .exit)) ≡ tql2 n limit (now (v .entry), now (d .entry), now (e .entry)) ⌝ }
+    ensures { λ a. ⌜ (a, now (v .exit), now (d .exit), now (e .exit)) ≡ tql2 n limit edition (now (v .entry), now (d .entry), now (e .entry)) ⌝ }
 {
     move_up(n, e);
-    let r = run(n, limit, v, d, e);
+    let r = run(n, limit, edition, v, d, e);
     finish(n, r, v, d)
 }

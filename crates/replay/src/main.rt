@@ -195,7 +195,7 @@ fn call(c: Asked, a: &[f64], b: &[f64], work: &mut [f64], result: &mut [f64]) ->
     let u = c.third as usize;
     let vt = c.fourth as usize;
     if c.function == 1 {
-        return eigen::symmetric_eigen(m, n, a, work, result);
+        return eigen::symmetric_eigen(m, n, u, a, work, result);
     }
     if c.function == 2 {
         return svd::svd(m, n, u, vt, c.fifth as usize, a, work, result);

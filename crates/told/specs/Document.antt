@@ -33,9 +33,9 @@ abbrev pub searched : ℕ → ℕ → Carried → ℕ
 searched n l x = first (tiny (x .e) (x .tst1)) l n
 
 -- the loop's body, up to its convergence check
-abbrev pub body : ℕ → ℕ → ℕ → Carried → Carried
-body n l m x =
-    let (h, v, d, e) = transformed n l m (x .v, x .d, x .e) in
+abbrev pub body : ℕ → ℕ → ℕ → ℕ → Carried → Carried
+body n edition l m x =
+    let (h, v, d, e) = transformed n edition l m (x .v, x .d, x .e) in
     record { f = x .f ⊕ h; tst1 = x .tst1; v = v; d = d; e = e }
 
 -- `if e[l].abs() <= eps * tst1 { break; }`
@@ -47,22 +47,22 @@ abbrev pub valued : ℕ → Carried → Carried
 valued l x = record { f = x .f; tst1 = x .tst1; v = x .v; d = set (x .d) l (at (x .d) l ⊕ x .f); e = set (x .e) l zero64 }
 
 -- `loop { .. if .. { break; } }`, entered at x and left at y
-pub data Looped (n l m : ℕ) : Carried → Carried → Type 0 where
-  once : {x : Carried} → settled l (body n l m x) ≡ true → Looped n l m x (body n l m x)
-  again : {x y : Carried} → settled l (body n l m x) ≡ false → Looped n l m (body n l m x) y → Looped n l m x y
+pub data Looped (n edition l m : ℕ) : Carried → Carried → Type 0 where
+  once : {x : Carried} → settled l (body n edition l m x) ≡ true → Looped n edition l m x (body n edition l m x)
+  again : {x y : Carried} → settled l (body n edition l m x) ≡ false → Looped n edition l m (body n edition l m x) y → Looped n edition l m x y
 
 -- one l: `if m > l { loop .. }`, and its value
-pub data Turned (n l : ℕ) (x : Carried) : Carried → Type 0 where
-  at-once : ltb l (searched n l (grown l x)) ≡ false → Turned n l x (valued l (grown l x))
-  by-passes : {y : Carried} → ltb l (searched n l (grown l x)) ≡ true → Looped n l (searched n l (grown l x)) (grown l x) y → Turned n l x (valued l y)
+pub data Turned (n edition l : ℕ) (x : Carried) : Carried → Type 0 where
+  at-once : ltb l (searched n l (grown l x)) ≡ false → Turned n edition l x (valued l (grown l x))
+  by-passes : {y : Carried} → ltb l (searched n l (grown l x)) ≡ true → Looped n edition l (searched n l (grown l x)) (grown l x) y → Turned n edition l x (valued l y)
 
 -- `for l in 0..n`, begun at x: y after so many turns
-pub data Ran (n : ℕ) (x : Carried) : ℕ → Carried → Type 0 where
-  none : Ran n x zero x
-  more : {l : ℕ} {y z : Carried} → Ran n x l y → Turned n l y z → Ran n x (suc l) z
+pub data Ran (n edition : ℕ) (x : Carried) : ℕ → Carried → Type 0 where
+  none : Ran n edition x zero x
+  more : {l : ℕ} {y z : Carried} → Ran n edition x l y → Turned n edition l y z → Ran n edition x (suc l) z
 
 -- the whole, the sort included: v, d and e before and after
-pub record Tql2 (n : ℕ) (x y : Vec × Vec × Vec) : Type 0 where
+pub record Tql2 (n edition : ℕ) (x y : Vec × Vec × Vec) : Type 0 where
   pub last : Carried
-  pub ran : Ran n (begun n x) n last
+  pub ran : Ran n edition (begun n x) n last
   pub values : let (v, d) = sorted n (last .v, last .d) in y ≡ (v, d, last .e)

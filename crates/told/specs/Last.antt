@@ -19,7 +19,8 @@ use Rattle.grid.specs.Loop.{seek, first, upto, fall, drops}
 use Rattle.grid.specs.LoopLaws.{upto-keeps}
 use Rattle.grid.specs.Real.{Vec, zero64, epsilon, at, _⊗_}
 use Rattle.leaves.specs.Leaf.{magnitude, larger, isFinite}
-use Rattle.pass.specs.Pass.{pythag, spin, spins, still, landed, transformed, tiny}
+use Rattle.hypot2.specs.Edition.{pythag}
+use Rattle.pass.specs.Pass.{spin, spins, still, landed, transformed, tiny}
 use Rattle.pass.specs.declared.Spin.{Spin}
 use Rattle.ql.specs.Ql.{upStep, movedUp, split}
 
@@ -171,11 +172,11 @@ kept-set k j e f x h a = record {
 abbrev Turning : Type 0
 Turning = Spin × Vec × Vec × Vec
 
-drops-kept : (n l b k : ℕ) (e : Vec) (x : Turning) → l + b < k → Kept k e (x .3) → Kept k e (drops (spin n) l b x .3)
+drops-kept : (n edition l b k : ℕ) (e : Vec) (x : Turning) → l + b < k → Kept k e (x .3) → Kept k e (drops (spin n edition) l b x .3)
 unfolding drops
-drops-kept n l zero k e x h a = a
-drops-kept n l (suc b) k e x h a =
-    drops-kept n l b k e (spin n (l + b) x) (omega arith) (unfold spin in kept-set k (l + b + 1) e (x .3) _ (omega arith) a)
+drops-kept n edition l zero k e x h a = a
+drops-kept n edition l (suc b) k e x h a =
+    drops-kept n edition l b k e (spin n edition (l + b) x) (omega arith) (unfold spin in kept-set k (l + b + 1) e (x .3) _ (omega arith) a)
 
 -- an element from m on: behind m it is left alone, and at m it becomes +0.0 times something, the first turn's s being +0.0
 pub record Ended (k : ℕ) (e f : Vec) : Type 0 where
@@ -193,27 +194,27 @@ ended-product k y e f h a =
       zero = λ z q. rw s (nought-product y (rw s at q));
     }
 
-first-turn : (n l b k : ℕ) (p : Float) (v d e : Vec) → l + b + 1 ≡ k → k < length e → Ended k e (drops (spin n) l (suc b) (still p, v, d, e) .3)
+first-turn : (n edition l b k : ℕ) (p : Float) (v d e : Vec) → l + b + 1 ≡ k → k < length e → Ended k e (drops (spin n edition) l (suc b) (still p, v, d, e) .3)
 unfolding drops spin
-first-turn n l b k p v d e i h =
-    let x = spin n (l + b) (still p, v, d, e) in
-    let r = pythag p (at e (l + b)) in
+first-turn n edition l b k p v d e i h =
+    let x = spin n edition (l + b) (still p, v, d, e) in
+    let r = pythag edition p (at e (l + b)) in
     let s : x .3 ≡ set e k (zero64 ⊗ r) = ap (λ (z : ℕ). set e z (zero64 ⊗ r)) i in
-    ended-product k r e _ h (drops-kept n l b k (set e k (zero64 ⊗ r)) x (omega arith) (record { long = ap length s; same = ap (λ (z : Vec). at z k) s }))
+    ended-product k r e _ h (drops-kept n edition l b k (set e k (zero64 ⊗ r)) x (omega arith) (record { long = ap length s; same = ap (λ (z : Vec). at z k) s }))
 
-spins-ended : (n l m k : ℕ) (p : Float) (v d e : Vec) → l < m → m ≤ k → k < length e → Ended k e (spins n l m (still p, v, d, e) .3)
+spins-ended : (n edition l m k : ℕ) (p : Float) (v d e : Vec) → l < m → m ≤ k → k < length e → Ended k e (spins n edition l m (still p, v, d, e) .3)
 unfolding spins fall
-spins-ended n l m k p v d e h g b = elim (decLt m k) [
-  | yes q ↦ ended-kept k e _ (drops-kept n l (m - l) k e (still p, v, d, e) (omega arith) (record { long = refl; same = refl }))
+spins-ended n edition l m k p v d e h g b = elim (decLt m k) [
+  | yes q ↦ ended-kept k e _ (drops-kept n edition l (m - l) k e (still p, v, d, e) (omega arith) (record { long = refl; same = refl }))
   | no q ↦
       let j : m - l ≡ suc (m - 1 - l) = omega arith in
-      rw j (first-turn n l (m - 1 - l) k p v d e (omega arith) b)
+      rw j (first-turn n edition l (m - 1 - l) k p v d e (omega arith) b)
 ]
 
 -- and what the turns leave at l is in front of it
-pub transformed-ended : (n l m k : ℕ) (v d e : Vec) → l < m → m ≤ k → k < length e → Ended k e (transformed n l m (v, d, e) .3)
+pub transformed-ended : (n edition l m k : ℕ) (v d e : Vec) → l < m → m ≤ k → k < length e → Ended k e (transformed n edition l m (v, d, e) .3)
 unfolding transformed landed
-transformed-ended n l m k v d e h g b = behind _ (spins-ended n l m k _ v _ e h g b)
+transformed-ended n edition l m k v d e h g b = behind _ (spins-ended n edition l m k _ v _ e h g b)
   where
     behind : (x : Float) {f : Vec} → Ended k e f → Ended k e (set f l x)
     behind x {f} a =

@@ -25,37 +25,37 @@ pub record Long (a b c d : Vec) : Type 0 where
   pub vectors : length c ≡ length a
   pub values : length d ≡ length b
 
-drops-long : (n l k : ℕ) (x : Spin × Vec × Vec × Vec) → Long (x .1) (x .2) (drops (spin n) l k x .1) (drops (spin n) l k x .2)
+drops-long : (n edition l k : ℕ) (x : Spin × Vec × Vec × Vec) → Long (x .1) (x .2) (drops (spin n edition) l k x .1) (drops (spin n edition) l k x .2)
 unfolding drops spin
-drops-long n l zero x = record { vectors = refl; values = refl }
-drops-long n l (suc k) x =
-    let w = drops-long n l k (spin n (l + k) x) in
+drops-long n edition l zero x = record { vectors = refl; values = refl }
+drops-long n edition l (suc k) x =
+    let w = drops-long n edition l k (spin n edition (l + k) x) in
     record { vectors = w .vectors ∙ rotated-long n (l + k) _ _ (x .1); values = w .values ∙ simp length-set }
 
-body-long : (n l m : ℕ) (x : Carried) → Long (x .v) (x .d) (body n l m x .v) (body n l m x .d)
+body-long : (n edition l m : ℕ) (x : Carried) → Long (x .v) (x .d) (body n edition l m x .v) (body n edition l m x .d)
 unfolding transformed spins fall landed shift
-body-long n l m x =
-    let w = drops-long n l (m - l) _ in
+body-long n edition l m x =
+    let w = drops-long n edition l (m - l) _ in
     record { vectors = w .vectors; values = simp length-set (w .values ∙ lessened-long n l _ _ ∙ simp length-set) }
 
-looped-long : (n l m : ℕ) {x y : Carried} → Looped n l m x y → Long (x .v) (x .d) (y .v) (y .d)
-looped-long n l m {x} (once p) = body-long n l m x
-looped-long n l m {x} (again p a) =
-    let w = looped-long n l m a in
-    let u = body-long n l m x in
+looped-long : (n edition l m : ℕ) {x y : Carried} → Looped n edition l m x y → Long (x .v) (x .d) (y .v) (y .d)
+looped-long n edition l m {x} (once p) = body-long n edition l m x
+looped-long n edition l m {x} (again p a) =
+    let w = looped-long n edition l m a in
+    let u = body-long n edition l m x in
     record { vectors = w .vectors ∙ u .vectors; values = w .values ∙ u .values }
 
-turned-long : (n l : ℕ) {x y : Carried} → Turned n l x y → Long (x .v) (x .d) (y .v) (y .d)
-turned-long n l (at-once p) = record { vectors = refl; values = simp length-set }
-turned-long n l (by-passes p a) =
-    let w = looped-long n l _ a in
+turned-long : (n edition l : ℕ) {x y : Carried} → Turned n edition l x y → Long (x .v) (x .d) (y .v) (y .d)
+turned-long n edition l (at-once p) = record { vectors = refl; values = simp length-set }
+turned-long n edition l (by-passes p a) =
+    let w = looped-long n edition l _ a in
     record { vectors = w .vectors; values = simp length-set (w .values) }
 
-pub ran-long : (n : ℕ) {x : Carried} {l : ℕ} {y : Carried} → Ran n x l y → Long (x .v) (x .d) (y .v) (y .d)
-ran-long n none = record { vectors = refl; values = refl }
-ran-long n (more {l = l} p t) =
-    let w = turned-long n l t in
-    let u = ran-long n p in
+pub ran-long : (n edition : ℕ) {x : Carried} {l : ℕ} {y : Carried} → Ran n edition x l y → Long (x .v) (x .d) (y .v) (y .d)
+ran-long n edition none = record { vectors = refl; values = refl }
+ran-long n edition (more {l = l} p t) =
+    let w = turned-long n edition l t in
+    let u = ran-long n edition p in
     record { vectors = w .vectors ∙ u .vectors; values = w .values ∙ u .values }
 
 -- ---- the sort
@@ -76,5 +76,5 @@ sorted-square : (n : ℕ) (x : Vec × Vec) → length (sorted n x .0) ≡ length
 unfolding sorted
 sorted-square n x = upto-long (λ (x : Vec × Vec). x .0) (sortStep n) 0 (n - 1) x (λ i u. sort-square n i u)
 
-pub tql2-square : (n : ℕ) (x y : Vec × Vec × Vec) → Tql2 n x y → length (y .0) ≡ length (x .0)
-tql2-square n x y p = ap (λ (z : Vec × Vec × Vec). length (z .0)) (p .values) ∙ sorted-square n (p .last .v, p .last .d) ∙ ran-long n (p .ran) .vectors
+pub tql2-square : (n edition : ℕ) (x y : Vec × Vec × Vec) → Tql2 n edition x y → length (y .0) ≡ length (x .0)
+tql2-square n edition x y p = ap (λ (z : Vec × Vec × Vec). length (z .0)) (p .values) ∙ sorted-square n (p .last .v, p .last .d) ∙ ran-long n edition (p .ran) .vectors

@@ -34,27 +34,27 @@ pub data End : Type 0 where
   used : End
 
 -- `loop { .. }` at l and m with so many passes left: entered at x, left at y after so many passes
-pub data Looped (n l m : ℕ) : ℕ → ℕ → Carried → End → Carried → Type 0 where
-  no-more : {x : Carried} → Looped n l m zero zero x used x
-  stop : {k b i : ℕ} {x : Carried} → FirstIn (list1 (body n l m x)) b i → Looped n l m (suc k) 1 x (bad b i) (body n l m x)
-  once : {k : ℕ} {x : Carried} → Sound (body n l m x) → settled l (body n l m x) ≡ true → Looped n l m (suc k) 1 x here (body n l m x)
-  again : {k c : ℕ} {e : End} {x y : Carried} → Sound (body n l m x) → settled l (body n l m x) ≡ false
-      → Looped n l m k c (body n l m x) e y → Looped n l m (suc k) (suc c) x e y
+pub data Looped (n edition l m : ℕ) : ℕ → ℕ → Carried → End → Carried → Type 0 where
+  no-more : {x : Carried} → Looped n edition l m zero zero x used x
+  stop : {k b i : ℕ} {x : Carried} → FirstIn (list1 (body n edition l m x)) b i → Looped n edition l m (suc k) 1 x (bad b i) (body n edition l m x)
+  once : {k : ℕ} {x : Carried} → Sound (body n edition l m x) → settled l (body n edition l m x) ≡ true → Looped n edition l m (suc k) 1 x here (body n edition l m x)
+  again : {k c : ℕ} {e : End} {x y : Carried} → Sound (body n edition l m x) → settled l (body n edition l m x) ≡ false
+      → Looped n edition l m k c (body n edition l m x) e y → Looped n edition l m (suc k) (suc c) x e y
 
 -- one l: `if m > l { loop .. }`, and its value where it settles
-pub data Turned (n limit l : ℕ) (x : Carried) : ℕ → End → Carried → Type 0 where
-  at-once : ltb l (searched n l (grown l x)) ≡ false → Turned n limit l x zero here (valued l (grown l x))
+pub data Turned (n limit edition l : ℕ) (x : Carried) : ℕ → End → Carried → Type 0 where
+  at-once : ltb l (searched n l (grown l x)) ≡ false → Turned n limit edition l x zero here (valued l (grown l x))
   by-passes : {c : ℕ} {y : Carried} → ltb l (searched n l (grown l x)) ≡ true
-      → Looped n l (searched n l (grown l x)) limit c (grown l x) here y → Turned n limit l x c here (valued l y)
+      → Looped n edition l (searched n l (grown l x)) limit c (grown l x) here y → Turned n limit edition l x c here (valued l y)
   by-mark : {c b i : ℕ} {y : Carried} → ltb l (searched n l (grown l x)) ≡ true
-      → Looped n l (searched n l (grown l x)) limit c (grown l x) (bad b i) y → Turned n limit l x c (bad b i) y
+      → Looped n edition l (searched n l (grown l x)) limit c (grown l x) (bad b i) y → Turned n limit edition l x c (bad b i) y
   by-limit : {c : ℕ} {y : Carried} → ltb l (searched n l (grown l x)) ≡ true
-      → Looped n l (searched n l (grown l x)) limit c (grown l x) used y → Turned n limit l x c used y
+      → Looped n edition l (searched n l (grown l x)) limit c (grown l x) used y → Turned n limit edition l x c used y
 
 -- `for l in 0..n`, begun at x: y after so many turns that settled, and so many passes
-pub data Ran (n limit : ℕ) (x : Carried) : ℕ → ℕ → Carried → Type 0 where
-  none : Ran n limit x zero zero x
-  more : {l c k : ℕ} {y z : Carried} → Ran n limit x l c y → Turned n limit l y k here z → Ran n limit x (suc l) (c + k) z
+pub data Ran (n limit edition : ℕ) (x : Carried) : ℕ → ℕ → Carried → Type 0 where
+  none : Ran n limit edition x zero zero x
+  more : {l c k : ℕ} {y z : Carried} → Ran n limit edition x l c y → Turned n limit edition l y k here z → Ran n limit edition x (suc l) (c + k) z
 
 -- the list that mark 2 looks at: d, then v row by row
 abbrev pub list2 : ℕ → Carried → Vec
@@ -66,11 +66,11 @@ pub record Whole (x : Carried) : Type 0 where
   pub vectors : Finite (x .v)
 
 -- the outcome of tql2 on (v, d, e): done after c passes, or stopped by mark 2, by mark 1, by the limit
-pub data Told (n limit : ℕ) (x : Vec × Vec × Vec) : Answer × Vec × Vec × Vec → Type 0 where
-  well : {c : ℕ} {y : Carried} → Ran n limit (begun n x) n c y → Whole y
-      → Told n limit x (done c, sorted n (y .v, y .d) .0, sorted n (y .v, y .d) .1, y .e)
-  at-mark2 : {c b i : ℕ} {y : Carried} → Ran n limit (begun n x) n c y → FirstIn (list2 n y) b i → Told n limit x (answered b 2 i c, y .v, y .d, y .e)
-  at-mark1 : {l c k b i : ℕ} {y z : Carried} → l < n → Ran n limit (begun n x) l c y → Turned n limit l y k (bad b i) z
-      → Told n limit x (answered b 1 i (c + k), z .v, z .d, z .e)
-  at-limit : {l c k : ℕ} {y z : Carried} → l < n → Ran n limit (begun n x) l c y → Turned n limit l y k used z
-      → Told n limit x (answered 9 l 0 (c + k), z .v, z .d, z .e)
+pub data Told (n limit edition : ℕ) (x : Vec × Vec × Vec) : Answer × Vec × Vec × Vec → Type 0 where
+  well : {c : ℕ} {y : Carried} → Ran n limit edition (begun n x) n c y → Whole y
+      → Told n limit edition x (done c, sorted n (y .v, y .d) .0, sorted n (y .v, y .d) .1, y .e)
+  at-mark2 : {c b i : ℕ} {y : Carried} → Ran n limit edition (begun n x) n c y → FirstIn (list2 n y) b i → Told n limit edition x (answered b 2 i c, y .v, y .d, y .e)
+  at-mark1 : {l c k b i : ℕ} {y z : Carried} → l < n → Ran n limit edition (begun n x) l c y → Turned n limit edition l y k (bad b i) z
+      → Told n limit edition x (answered b 1 i (c + k), z .v, z .d, z .e)
+  at-limit : {l c k : ℕ} {y z : Carried} → l < n → Ran n limit edition (begun n x) l c y → Turned n limit edition l y k used z
+      → Told n limit edition x (answered 9 l 0 (c + k), z .v, z .d, z .e)

@@ -1,5 +1,6 @@
 // Reads numbers by their bits, 16 hexadecimal digits each. For a line with one it writes the root, for a line with two their hypot, by its bits too, or
-// "nan". What is read and what must be written are made by tests/vectors/make.rs.
+// "nan": 01's rule where a blank stands between them, and the correctly rounded one where a plus does. What is read and what must be written are made by
+// tests/vectors/make.rs and tests/vectors/hypot2.py.
 ghost use Prim.Native.Nat.{_+_, _≤_, _<_};
 ghost use lib.ListN.{length};
 
@@ -39,6 +40,14 @@ fn show(y: f64) {
     }
 }
 
+// hypot of two numbers with that byte between them.
+fn length(between: u8, x: f64, y: f64) -> f64 {
+    if between == b'+' {
+        return hypot2::pythag(2, x, y);
+    }
+    hypot2::pythag(1, x, y)
+}
+
 // Answers the line at that place, and gives where the next begins. A line cut short is the last.
 fn line(s: &[u8], at: usize) -> usize
     requires { ⌜ at < length (now s) ⌝ }
@@ -55,7 +64,7 @@ fn line(s: &[u8], at: usize) -> usize
     if left < 34 {
         return s.len();
     }
-    show(leaves::hypot(number(word(s, at)), number(word(s, at + 17))));
+    show(length(s[at + 16], number(word(s, at)), number(word(s, at + 17))));
     at + 34
 }
 

@@ -28,13 +28,13 @@ decompose-rows-requires : tie.Need-decompose-rows-requires
 decompose-rows-requires c κs = (c .before .before .before .before .before .before .pre .0, c .before .before .before .before .before .before .pre .1, c .before .before .before .before .before .before .pre .2, c .before .before .before .before .before .before .pre .3, record { square = v-length _ _ _ (c .before .before .before .before .before .before .pre .1) (c .before .before .before .before .before .before .pre .4) (c .before .before .before .before .before .before .pre .5); diagonal = d-length _ _ _ (c .before .before .before .before .before .before .pre .1) (c .before .before .before .before .before .before .pre .4) (c .before .before .before .before .before .before .pre .5); beside = e-length _ _ _ (c .before .before .before .before .before .before .pre .1) (c .before .before .before .before .before .before .pre .4) (c .before .before .before .before .before .before .pre .5) })
 
 array-share-prefix-d : tie.Need-array-share-prefix-d
-array-share-prefix-d c = d-fits _ _ _ (c .before .before .before .before .before .before .before .before .before .before .before .before .pre .1) (c .before .before .before .before .before .before .before .before .before .before .before .before .pre .4) (c .before .before .before .before .before .before .before .before .before .before .before .before .pre .5) (c .before .before .before .before .before .decompose-rows .last .1 .1 .1 .1 .0) (c .before .before .before .before .before .decompose-rows .kept .1 .1 .1 .1 .0)
+array-share-prefix-d c = d-fits _ _ _ (c .before .before .before .before .before .before .before .before .before .before .before .before .pre .1) (c .before .before .before .before .before .before .before .before .before .before .before .before .pre .4) (c .before .before .before .before .before .before .before .before .before .before .before .before .pre .5) (c .before .before .before .before .before .decompose-rows .last .1 .1 .1 .1 .1 .0) (c .before .before .before .before .before .decompose-rows .kept .1 .1 .1 .1 .1 .0)
 
 slice-aggregate-give : tie.Need-slice-aggregate-give
-slice-aggregate-give c = sym (d-again _ _ _ (c .before .before .before .before .before .before .before .before .before .before .before .before .before .pre .1) (c .before .before .before .before .before .before .before .before .before .before .before .before .before .pre .4) (c .before .before .before .before .before .before .before .before .before .before .before .before .before .pre .5) (c .before .before .before .before .before .before .decompose-rows .last .1 .1 .1 .1 .0) (c .before .before .before .before .before .before .decompose-rows .kept .1 .1 .1 .1 .0))
+slice-aggregate-give c = sym (d-again _ _ _ (c .before .before .before .before .before .before .before .before .before .before .before .before .before .pre .1) (c .before .before .before .before .before .before .before .before .before .before .before .before .before .pre .4) (c .before .before .before .before .before .before .before .before .before .before .before .before .before .pre .5) (c .before .before .before .before .before .before .decompose-rows .last .1 .1 .1 .1 .1 .0) (c .before .before .before .before .before .before .decompose-rows .kept .1 .1 .1 .1 .1 .0))
 
 give-requires : tie.Need-give-requires
-give-requires c κs = d-front _ _ _ (c .before .before .before .before .before .before .before .before .before .before .before .before .before .before .before .pre .1) (c .before .before .before .before .before .before .before .before .before .before .before .before .before .before .before .pre .4) (c .before .before .before .before .before .before .before .before .before .before .before .before .before .before .before .pre .5) (c .before .before .before .before .before .before .before .before .decompose-rows .last .1 .1 .1 .0) (c .before .before .before .before .before .before .before .before .decompose-rows .last .1 .1 .1 .1 .0) (c .before .before .before .before .before .before .before .before .decompose-rows .kept .1 .1 .1 .0) (c .before .before .before .before .before .before .before .before .decompose-rows .kept .1 .1 .1 .1 .0)
+give-requires c κs = d-front _ _ _ (c .before .before .before .before .before .before .before .before .before .before .before .before .before .before .before .pre .1) (c .before .before .before .before .before .before .before .before .before .before .before .before .before .before .before .pre .4) (c .before .before .before .before .before .before .before .before .before .before .before .before .before .before .before .pre .5) (c .before .before .before .before .before .before .before .before .decompose-rows .last .1 .1 .1 .1 .0) (c .before .before .before .before .before .before .before .before .decompose-rows .last .1 .1 .1 .1 .1 .0) (c .before .before .before .before .before .before .before .before .decompose-rows .kept .1 .1 .1 .1 .0) (c .before .before .before .before .before .before .before .before .decompose-rows .kept .1 .1 .1 .1 .1 .0)
 
 same-length : tie.Need-same-length
 same-length c = search needs
@@ -43,7 +43,7 @@ same-length-2 : tie.Need-same-length-2
 same-length-2 c = search needs
 
 returns : tie.Need-returns
-returns c = run-whole _ _ _ (c .before .before .before .before .before .before .before .before .before .before .before .before .before .before .before .before .before .before .before .before .pre .1) (c .before .before .before .before .before .before .before .before .before .before .before .before .before .before .before .before .before .before .before .before .pre .4) (c .before .before .before .before .before .before .before .before .before .before .before .before .before .before .before .before .before .before .before .before .pre .5) _ _ _ _ _ _ _ (c .before .before .before .before .before .before .before .before .before .before .before .before .before .decompose-rows .kept .1 .1 .1 .0) (c .before .before .before .before .before .before .before .before .before .before .before .before .before .decompose-rows .kept .1 .1 .1 .1 .0) (c .before .before .before .before .before .before .before .before .before .before .before .before .before .decompose-rows .kept .1 .1 .1 .1 .1 .0) (c .before .before .before .before .before .before .before .before .before .before .before .before .before .decompose-rows .ensures) (c .before .before .before .before .give .ensures)
+returns c = run-whole _ _ _ (c .before .before .before .before .before .before .before .before .before .before .before .before .before .before .before .before .before .before .before .before .pre .1) (c .before .before .before .before .before .before .before .before .before .before .before .before .before .before .before .before .before .before .before .before .pre .4) (c .before .before .before .before .before .before .before .before .before .before .before .before .before .before .before .before .before .before .before .before .pre .5) _ _ _ _ _ _ _ _ (c .before .before .before .before .before .before .before .before .before .before .before .before .before .decompose-rows .kept .1 .1 .1 .1 .0) (c .before .before .before .before .before .before .before .before .before .before .before .before .before .decompose-rows .kept .1 .1 .1 .1 .1 .0) (c .before .before .before .before .before .before .before .before .before .before .before .before .before .decompose-rows .kept .1 .1 .1 .1 .1 .1 .0) (c .before .before .before .before .before .before .before .before .before .before .before .before .before .decompose-rows .ensures) (c .before .before .before .before .give .ensures)
 
 pub run-spec : {M : Type 1} → statement M
 run-spec =

@@ -12,11 +12,11 @@ transform-requires c κs = search needs
 verdict-requires : tie.Need-verdict-requires
 verdict-requires c κs = search needs
 
-add-t19 : tie.Need-add-t19
-add-t19 c = omega arith
-
 add-t20 : tie.Need-add-t20
 add-t20 c = omega arith
+
+add-t21 : tie.Need-add-t21
+add-t21 c = omega arith
 
 same-length : tie.Need-same-length
 same-length c = omega arith
@@ -37,8 +37,8 @@ pass-spec =
     (tie.spec
     transform-requires
     verdict-requires
-    add-t19
     add-t20
+    add-t21
     same-length
     same-length-2
     same-length-3

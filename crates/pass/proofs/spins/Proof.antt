@@ -12,10 +12,10 @@ use Rattle.pass.proofs.spins.Statement.{statement}
 use Rattle.pass.proofs.spins.Tie as tie
 
 abbrev Inv-loop : tie.InvT-loop
-Inv-loop n l m v₀ d₀ e₀ q₀ i₀ v d e q i = (l ≤ i) × (i ≤ m) × Sized n v d e × (fall (spin n) l i (q, v, d, e) ≡ fall (spin n) l m (q₀, v₀, d₀, e₀))
+Inv-loop n edition l m v₀ d₀ e₀ q₀ i₀ v d e q i = (l ≤ i) × (i ≤ m) × Sized n v d e × (fall (spin n edition) l i (q, v, d, e) ≡ fall (spin n edition) l m (q₀, v₀, d₀, e₀))
 
 abbrev μ-loop : tie.MeasureT-loop
-μ-loop n l m v₀ d₀ e₀ q₀ i₀ v d e q i = i
+μ-loop n edition l m v₀ d₀ e₀ q₀ i₀ v d e q i = i
 
 loop-holds : tie.Need-loop-holds Inv-loop μ-loop
 loop-holds c = (omega arith, omega arith, search needs, refl)

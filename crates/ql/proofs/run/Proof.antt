@@ -12,14 +12,14 @@ use Rattle.ql.specs.Bounds.{turn-count}
 use Rattle.ql.proofs.run.Statement.{statement}
 use Rattle.ql.proofs.run.Tie as tie
 
-grown : (n limit l : ℕ) (x y : State) → limit ≤ 60 → y ≡ turn n limit l x → y .0 .count ≤ x .0 .count + 60
-grown n limit l x y h e = rw e (omega (arith, turn-count n limit l x))
+grown : (n limit edition l : ℕ) (x y : State) → limit ≤ 60 → y ≡ turn n limit edition l x → y .0 .count ≤ x .0 .count + 60
+grown n limit edition l x y h e = rw e (omega (arith, turn-count n limit edition l x))
 
 abbrev Inv-loop : tie.InvT-loop
-Inv-loop n limit v₀ d₀ e₀ r₀ l₀ v d e r l = (l ≤ n) × (r .count ≤ l * 60) × Sized n v d e × ((r, v, d, e) ≡ upto (turn n limit) 0 l (r₀, v₀, d₀, e₀))
+Inv-loop n limit edition v₀ d₀ e₀ r₀ l₀ v d e r l = (l ≤ n) × (r .count ≤ l * 60) × Sized n v d e × ((r, v, d, e) ≡ upto (turn n limit edition) 0 l (r₀, v₀, d₀, e₀))
 
 abbrev μ-loop : tie.MeasureT-loop
-μ-loop n limit v₀ d₀ e₀ r₀ l₀ v d e r l = n - l
+μ-loop n limit edition v₀ d₀ e₀ r₀ l₀ v d e r l = n - l
 
 loop-holds : tie.Need-loop-holds Inv-loop μ-loop
 loop-holds c = (omega arith, omega arith, search needs, start _ _ _)
@@ -34,7 +34,7 @@ loop-less : tie.Need-loop-less Inv-loop μ-loop
 loop-less c = omega arith
 
 loop-again : tie.Need-loop-again Inv-loop μ-loop
-loop-again c = (omega arith, omega (arith, grown _ _ _ _ _ (c .before .before .before .before .before .before .before .before .before .before .before .before .before .before .before .pre .1) (c .before .before .before .before .before .before .turn .ensures)), omega arith, next _ _ _ _ (omega arith) (c .before .before .before .before .before .before .before .before .before .before .before .loop .inv .3) (c .before .before .before .before .before .before .turn .ensures))
+loop-again c = (omega arith, omega (arith, grown _ _ _ _ _ _ (c .before .before .before .before .before .before .before .before .before .before .before .before .before .before .before .pre .1) (c .before .before .before .before .before .before .turn .ensures)), omega arith, next _ _ _ _ (omega arith) (c .before .before .before .before .before .before .before .before .before .before .before .loop .inv .3) (c .before .before .before .before .before .before .turn .ensures))
 
 same-length : tie.Need-same-length Inv-loop μ-loop
 same-length c = omega arith

@@ -19,7 +19,7 @@ iterate-requires : tie.Need-iterate-requires
 iterate-requires c κs = (omega arith, rw (c .before .before .before .begin .ensures) (opened-ready _ _ _ _ _ (c .before .before .before .before .before .before .before .before .before .before .before .pre .0) (c .before .before .before .before .before .before .before .before .before .before .before .pre .2)), c .before .before .before .before .before .before .before .before .before .before .before .pre .3)
 
 close-requires : tie.Need-close-requires
-close-requires c κs = omega (arith, c .before .before .before .before .before .before .before .before .before .before .before .before .before .before .before .before .before .before .before .before .pre, c .before .before .before .before .before .before .before .before .iterate .kept, iterated-l _ _ _ _ (c .before .before .before .before .before .before .before .before .iterate .ensures), opened-l _ _ _ _ _ _ (c .before .before .before .before .before .before .before .before .before .before .before .before .begin .ensures))
+close-requires c κs = omega (arith, c .before .before .before .before .before .before .before .before .before .before .before .before .before .before .before .before .before .before .before .before .pre, c .before .before .before .before .before .before .before .before .iterate .kept, iterated-l _ _ _ _ _ (c .before .before .before .before .before .before .before .before .iterate .ensures), opened-l _ _ _ _ _ _ (c .before .before .before .before .before .before .before .before .before .before .before .before .begin .ensures))
 
 same-length : tie.Need-same-length
 same-length c = omega arith
