@@ -1,8 +1,8 @@
 /*
  * What a codec does with Crewelmarsh: planes of 16-bit samples, their covariance, its values and vectors,
  * the forward transform, the inverse, and the largest difference to the samples. Values and vectors then go into a
- * transform block, from which a decoder takes them for a tile that has no block of its own. Then an svd and a
- * pseudo-inverse of a small matrix.
+ * transform block, from which a decoder takes them for a tile that has no block of its own. Blocks of tiles that come
+ * out of order wait in a store. Then an svd and a pseudo-inverse of a small matrix.
  */
 #include <stdio.h>
 #include "crewelmarsh.h"
@@ -217,17 +217,72 @@ static int pass_as_block(void)
     return largest_difference(own_values, values_back, BANDS) == 0 && largest_difference(vectors, vectors_back, BANDS * BANDS) == 0;
 }
 
+/* The block of a tile: BANDS values, the first of which is the tile's number. */
+enum { TILES = 6, TILE_BLOCK = 12 + 12 + 8 * BANDS };
+
+static int make_tile(uint16_t tile, unsigned char *block)
+{
+    double own[BANDS] = {0, 1, 2, 3, 4};
+    own[0] = tile;
+    return done("block_write", crewelmarsh_block_write(BANDS, BANDS, 1, CREWELMARSH_VALUES, own, BANDS, 0, NULL, 0, 0, NULL, 0, block, TILE_BLOCK));
+}
+
+/* The store's three arrays, as each of its calls takes them. Its buffer has room for five blocks. */
+static size_t list[CREWELMARSH_STORE_LIST_LEN];
+static uint16_t tiles[CREWELMARSH_STORE_TILES_LEN];
+static unsigned char bytes[5 * TILE_BLOCK];
+#define STORE list, CREWELMARSH_STORE_LIST_LEN, tiles, CREWELMARSH_STORE_TILES_LEN, bytes, sizeof bytes
+
+/* The tile that is next is taken out of the store, as long as it is there. */
+static int take_next(uint16_t *next)
+{
+    unsigned char block[TILE_BLOCK];
+    double own[BANDS];
+    while (crewelmarsh_store_length(STORE, *next).answer == CREWELMARSH_DONE) {
+        if (!done("store_fetch", crewelmarsh_store_fetch(STORE, *next, block, sizeof block)) ||
+            !done("store_drop", crewelmarsh_store_drop(STORE, *next)) ||
+            !done("block_copy", crewelmarsh_block_copy(block, sizeof block, NULL, 0, CREWELMARSH_VALUES, own, BANDS)) || own[0] != *next)
+            return 0;
+        printf(" %u", *next);
+        *next += 1;
+    }
+    return 1;
+}
+
+/* Tiles come out of order and are decoded in order: each block waits in the store for its turn. */
+static int keep_tiles(void)
+{
+    static const uint16_t order[TILES] = {2, 0, 4, 1, 5, 3};
+    unsigned char block[TILE_BLOCK];
+    uint16_t next = 0;
+    int i;
+    if (!done("store_setup", crewelmarsh_store_setup(STORE)))
+        return 0;
+    for (i = 0; i < TILES; i++) {
+        uint16_t waiting = next;
+        if (!make_tile(order[i], block) || !done("store_put", crewelmarsh_store_put(STORE, order[i], block, sizeof block)))
+            return 0;
+        printf("store: tile %u came, decoded", order[i]);
+        if (!take_next(&next))
+            return 0;
+        printf("%s, %zu held\n", next == waiting ? " none" : "", list[1]);
+    }
+    return next == TILES;
+}
+
 /* What a refusal looks like: 257 bands, and bands with no sample. */
 static void refuse(void)
 {
     done("symmetric_eigen of 257", crewelmarsh_symmetric_eigen(257, 60, CREWELMARSH_EDITION_1, NULL, 0, NULL, 0, NULL, 0));
     done("covariance of no sample", crewelmarsh_covariance(3, 0, NULL, 0, NULL, 0));
+    done("store_drop of a tile that is gone", crewelmarsh_store_drop(STORE, 3));
 }
 
 int main(void)
 {
     int good = transform_bands();
     good = pass_as_block() && good;
+    good = keep_tiles() && good;
     good = invert_small() && good;
     refuse();
     printf("%s\n", good ? "good" : "NOT good");

@@ -22,6 +22,14 @@
  *
  * crewelmarsh_covariance makes the matrix that symmetric_eigen takes from bands of 16-bit samples, exactly.
  *
+ * Five keep blocks of bytes under tile numbers, in one buffer (see THE STORE below):
+ *
+ *     crewelmarsh_store_setup       an empty store
+ *     crewelmarsh_store_put         a block under a tile number
+ *     crewelmarsh_store_length      how long a tile's block is
+ *     crewelmarsh_store_fetch       a tile's block
+ *     crewelmarsh_store_drop        a tile's block gone, its room free
+ *
  * WHAT IS ASKED OF A CALLER
  *
  * An array is lent as a pointer and a length in numbers (not bytes), a block as a pointer and a length in
@@ -51,7 +59,7 @@
  *
  * Matrix, decomposition and right side are only read.
  *
- * 20 to 24 come from blocks alone, and leave all untouched.
+ * 20 to 24 come from blocks alone, and leave all untouched; so do 30 to 39, which come from the store alone.
  *
  * The tests run in the order of the numbers, but those for 11 and 12 come behind 5 and before 6. So a 6 says that
  * sizes, limit, edition, flags and tolerance were good, and a 7 that the lengths were good too. 8, 9 and 10 come as
@@ -115,7 +123,7 @@
  * patch.
  */
 #define CREWELMARSH_VERSION_MAJOR 3
-#define CREWELMARSH_VERSION_MINOR 0
+#define CREWELMARSH_VERSION_MINOR 1
 #define CREWELMARSH_VERSION_PATCH 0
 #define CREWELMARSH_VERSION /* as a string */ \
     CREWELMARSH_DOTTED(CREWELMARSH_VERSION_MAJOR, CREWELMARSH_VERSION_MINOR, CREWELMARSH_VERSION_PATCH)
@@ -133,6 +141,11 @@
 #define crewelmarsh_block_length CREWELMARSH_NAME(block_length)
 #define crewelmarsh_block_write CREWELMARSH_NAME(block_write)
 #define crewelmarsh_covariance CREWELMARSH_NAME(covariance)
+#define crewelmarsh_store_setup CREWELMARSH_NAME(store_setup)
+#define crewelmarsh_store_put CREWELMARSH_NAME(store_put)
+#define crewelmarsh_store_length CREWELMARSH_NAME(store_length)
+#define crewelmarsh_store_fetch CREWELMARSH_NAME(store_fetch)
+#define crewelmarsh_store_drop CREWELMARSH_NAME(store_drop)
 
 /* The numbers are put in first, then pasted or quoted. */
 #define CREWELMARSH_NAME(name) CREWELMARSH_NUMBERED(crewelmarsh_##name##_abi, CREWELMARSH_VERSION_MAJOR)
@@ -150,7 +163,7 @@ struct crewelmarsh_answer {
     size_t answer; /* one of the numbers below */
     size_t place;  /* where, by the answer; 0 where nothing is said of it */
     size_t index;  /* on 8 and 10 the number at the mark, in qr_q the column; else 0 */
-    size_t count;  /* QL passes or sweeps run, the one that stopped the run included; else 0 */
+    size_t count;  /* QL passes or sweeps run, the one that stopped the run included; of store_length the length; else 0 */
 };
 
 enum {
@@ -278,6 +291,34 @@ enum {
     CREWELMARSH_ENTRY_OVER = 26
 };
 
+/* Those of the store. Place 0; each leaves the store and the destination untouched. */
+enum {
+    /* The lengths of the blocks held and of the new one together exceed the room (put).
+       Drop tiles that are done with, or give the store a larger buffer. */
+    CREWELMARSH_STORE_FULL = 30,
+
+    /* The tile is held already (put).
+       Drop it first where the new block is to take its place. */
+    CREWELMARSH_STORE_HELD = 31,
+
+    /* The tile is not held (length, fetch, drop).
+       It has not come yet, or was dropped. */
+    CREWELMARSH_STORE_MISSING = 32,
+
+    /* 64 blocks are held (put).
+       Drop tiles that are done with. */
+    CREWELMARSH_STORE_ENTRIES = 33,
+
+    /* The buffer is over 65,536 bytes (setup).
+       Pass a smaller length; more buffers are more stores. */
+    CREWELMARSH_STORE_BUFFER = 37,
+
+    /* These arrays are no store that a setup and calls left: a length is not that of the setup, more than 64 are held,
+       the lengths of those together exceed the room, or a tile stands twice. In setup: list or tiles have a wrong length.
+       Something else wrote into list or tiles, or the setup was forgotten. What is held can't be trusted: set up anew. */
+    CREWELMARSH_STORE_DAMAGED = 39
+};
+
 /* A short text for an answer number, for logs. Never NULL. */
 static inline const char *crewelmarsh_text(size_t answer)
 {
@@ -302,6 +343,12 @@ static inline const char *crewelmarsh_text(size_t answer)
     case CREWELMARSH_BLOCK_OFFSET: return "an offset of the block is bad";
     case CREWELMARSH_SAMPLES: return "the number of samples is outside 1 to 65,536";
     case CREWELMARSH_ENTRY_OVER: return "an entry is over 2^53";
+    case CREWELMARSH_STORE_FULL: return "the store has no room for the block";
+    case CREWELMARSH_STORE_HELD: return "the tile is held already";
+    case CREWELMARSH_STORE_MISSING: return "the tile is not held";
+    case CREWELMARSH_STORE_ENTRIES: return "the store holds as many blocks as it may";
+    case CREWELMARSH_STORE_BUFFER: return "the store's buffer is over 65,536 bytes";
+    case CREWELMARSH_STORE_DAMAGED: return "the store's arrays are not what its calls left";
     default: return "no answer of crewelmarsh";
     }
 }
@@ -759,6 +806,95 @@ struct crewelmarsh_answer crewelmarsh_covariance(
     size_t count,
     const int16_t *samples, size_t samples_len,
     double *matrix, size_t matrix_len);
+
+/*
+ * THE STORE
+ *
+ * A store keeps blocks of bytes, any bytes, under tile numbers 0 to 65,535: up to 64 blocks in one buffer of up to 65,536
+ * bytes, each given back just as it was put. Any sequence of these calls answers as a plain map from tiles to bytes does
+ * (T27 of docs/PROMISES.md), as long as nothing else writes into the three arrays between them. A block may be empty.
+ *
+ * The caller lends the same three arrays to each call, and nothing is kept elsewhere:
+ *
+ *     list    66 numbers: the room, which is the buffer's length; how many blocks are held; a length for each entry
+ *     tiles   64 numbers, a tile for each entry
+ *     bytes   the buffer, as long as at setup. It has the blocks and nothing else, one behind the other from its start on
+ *
+ * They need no old contents before setup. list[0] and list[1] may be read at any time. All arrays may be copied or moved
+ * to other memory between two calls.
+ *
+ * The room of a dropped block is free at once: the blocks behind it move down. So a pointer into the buffer is of no use
+ * after a drop. Each call looks the whole list through first, and then for the tile: some microseconds at most.
+ */
+enum {
+    CREWELMARSH_STORE_ENTRIES_MOST = 64,
+    CREWELMARSH_STORE_LIST_LEN = 2 + 64,
+    CREWELMARSH_STORE_TILES_LEN = 64,
+    CREWELMARSH_STORE_BYTES_MOST = 65536
+};
+
+/*
+ * An empty store over this buffer, whatever the arrays held before. Also the way to empty one.
+ *
+ * Answers, index and count always 0, place 0:
+ *   0
+ *   37 bytes_len is over 65,536
+ *   39 list_len is not 66 or tiles_len not 64
+ * Only 0 writes, and only to the first two numbers of the list.
+ */
+struct crewelmarsh_answer crewelmarsh_store_setup(
+    size_t *list, size_t list_len,
+    const uint16_t *tiles, size_t tiles_len,
+    const unsigned char *bytes, size_t bytes_len);
+
+/*
+ * Puts a block under a tile that has none.
+ *
+ * Answers, index and count always 0, place 0, in this order; all but 0 leave everything untouched:
+ *   39, 31, 33, 30
+ */
+struct crewelmarsh_answer crewelmarsh_store_put(
+    size_t *list, size_t list_len,
+    uint16_t *tiles, size_t tiles_len,
+    unsigned char *bytes, size_t bytes_len,
+    uint16_t tile,
+    const unsigned char *block, size_t block_len);
+
+/*
+ * How long a tile's block is: `count`, on 0.
+ *
+ * Answers, place and index always 0: 39, 32
+ */
+struct crewelmarsh_answer crewelmarsh_store_length(
+    const size_t *list, size_t list_len,
+    const uint16_t *tiles, size_t tiles_len,
+    const unsigned char *bytes, size_t bytes_len,
+    uint16_t tile);
+
+/*
+ * Copies a tile's block to `out`, which is as long as the block.
+ *
+ * Answers, index and count always 0, place 0; all but 0 leave out untouched:
+ *   39, 32
+ *   6  out_len is not the block's length
+ */
+struct crewelmarsh_answer crewelmarsh_store_fetch(
+    const size_t *list, size_t list_len,
+    const uint16_t *tiles, size_t tiles_len,
+    const unsigned char *bytes, size_t bytes_len,
+    uint16_t tile,
+    unsigned char *out, size_t out_len);
+
+/*
+ * Drops a tile's block.
+ *
+ * Answers, index and count always 0, place 0; all but 0 leave everything untouched: 39, 32
+ */
+struct crewelmarsh_answer crewelmarsh_store_drop(
+    size_t *list, size_t list_len,
+    uint16_t *tiles, size_t tiles_len,
+    unsigned char *bytes, size_t bytes_len,
+    uint16_t tile);
 
 #ifdef __cplusplus
 }

@@ -3,6 +3,8 @@
 
 #[path = "bench_covariance.rs"]
 mod covariances;
+#[path = "bench_store.rs"]
+mod stores;
 
 use oracle::cases::Random;
 use oracle::plain::platform;
@@ -68,6 +70,14 @@ entries! {
     fn crewelmarsh_block_write_abi3(rows: usize, columns: usize, parts: usize, kind1: usize, numbers1: *const f64, len1: usize,
         kind2: usize, numbers2: *const f64, len2: usize, kind3: usize, numbers3: *const f64, len3: usize, out: *mut u8, out_len: usize) -> Answer;
     fn crewelmarsh_covariance_abi3(n: usize, count: usize, samples: *const i16, samples_len: usize, matrix: *mut f64, matrix_len: usize) -> Answer;
+    fn crewelmarsh_store_setup_abi3(list: *mut usize, list_len: usize, tiles: *const u16, tiles_len: usize, bytes: *const u8, bytes_len: usize) -> Answer;
+    fn crewelmarsh_store_put_abi3(list: *mut usize, list_len: usize, tiles: *mut u16, tiles_len: usize, bytes: *mut u8, bytes_len: usize, tile: u16,
+        block: *const u8, block_len: usize) -> Answer;
+    fn crewelmarsh_store_length_abi3(list: *const usize, list_len: usize, tiles: *const u16, tiles_len: usize, bytes: *const u8, bytes_len: usize,
+        tile: u16) -> Answer;
+    fn crewelmarsh_store_fetch_abi3(list: *const usize, list_len: usize, tiles: *const u16, tiles_len: usize, bytes: *const u8, bytes_len: usize,
+        tile: u16, out: *mut u8, out_len: usize) -> Answer;
+    fn crewelmarsh_store_drop_abi3(list: *mut usize, list_len: usize, tiles: *mut u16, tiles_len: usize, bytes: *mut u8, bytes_len: usize, tile: u16) -> Answer;
 }
 
 unsafe extern "C" {
@@ -318,6 +328,9 @@ fn main() {
     if std::env::args().nth(1).as_deref() == Some("covariance") {
         return covariances::table(&mut rng);
     }
+    if std::env::args().nth(1).as_deref() == Some("store") {
+        return stores::table();
+    }
     let about = std::fs::read_to_string("/proc/cpuinfo").unwrap_or_default();
     let model = about.lines().find(|l| l.starts_with("model name")).and_then(|l| l.split(": ").nth(1)).unwrap_or("unknown");
     println!("Machine: {} ({model}).", std::env::consts::ARCH);
@@ -387,4 +400,5 @@ fn main() {
     }
     blocks(&mut rng);
     covariances::table(&mut rng);
+    stores::table();
 }

@@ -1,8 +1,8 @@
 #!/bin/sh
 # Wrong versions of the patched functions, each behind the C entries in the archive's place. The committed list and the C tests
 # (tests/*.c) must each find every one: a version that agrees with all cases of the list, or that passes all of the tests, fails this
-# script. The patched functions as they are come first, and must pass both. Those of blocks are for the C tests alone: the list has none.
-# Each line of the table is a sed command on src/patched.rs (for hypot on src/hypot.rs, for blocks on src/block.rs); it must change the text.
+# script. The patched functions as they are come first, and must pass both. Those of blocks and of the store are for the C tests alone: the list has none.
+# Each line of the table is a sed command on src/patched.rs (for hypot on src/hypot.rs, for blocks on src/block.rs, for the store on src/store.rs); it must change the text.
 # Needs rustc, a C and a C++ compiler: RUSTC, CC, CXX.
 set -e
 cd "$(dirname "$0")"
@@ -32,14 +32,14 @@ tested() { timeout 60 $out/boundary >$out/tests 2>&1 && [ "$(tail -n 1 $out/test
 told() { tail -n 1 "$2" | grep "$1" | sed 's/.*, //' | grep . || echo 'no count'; }
 
 left=0
-cp src/entries.rs src/block.rs src/hypot.rs src/patched.rs $out/
+cp src/entries.rs src/block.rs src/store.rs src/hypot.rs src/patched.rs $out/
 build
 listed || { echo "the patched functions as they are: the list differs; $(tail -n 1 $out/said)"; left=1; }
 tested || { echo "the patched functions as they are: the C tests fail; $(tail -n 1 $out/tests)"; left=1; }
 while IFS='	' read -r name edit; do
-    cp src/entries.rs src/block.rs src/hypot.rs src/patched.rs $out/
+    cp src/entries.rs src/block.rs src/store.rs src/hypot.rs src/patched.rs $out/
     text=patched.rs
-    case $name in hypot*) text=hypot.rs ;; block*) text=block.rs ;; esac
+    case $name in hypot*) text=hypot.rs ;; block*) text=block.rs ;; store*) text=store.rs ;; esac
     sed "$edit" src/$text >$out/$text
     if cmp -s src/$text $out/$text; then
         echo "$name: the edit changes nothing"
@@ -48,6 +48,7 @@ while IFS='	' read -r name edit; do
     fi
     build
     if [ $text = block.rs ]; then by_list='has no blocks'
+    elif [ $text = store.rs ]; then by_list='has no store'
     elif listed; then by_list='NOT FOUND'; left=1; else by_list=$(told ', .* differ' $out/said); fi
     if tested; then by_tests='NOT FOUND'; left=1; else by_tests=$(told 'checks, .* failed' $out/tests); fi
     echo "$name: list: $by_list; C tests: $by_tests"
@@ -130,5 +131,21 @@ block main before own	s/\[own, main\]/[main, own]/
 block values of a matrix's count	s/1 => Some(rows.min(columns))/1 => Some(rows * columns)/
 block written where it is short	s/if block.len() != out.len() {/if block.len() > out.len() {/
 block length where refused	s/Some(_) => 0,/Some(_) => 12,/
+store last byte refused	s/block.len() > bytes.len()/block.len() >= bytes.len()/
+store repeated tile taken	/pub fn put/,/return 31/s/if held.iter().any(|&(other, _)| other == tile)/if false/
+store 65 entries	/pub fn put/,/return 33/s/held.len() == ENTRIES/held.len() > ENTRIES/
+store 33 before 31	/pub fn put/,/let Some/s/return 39 };/return 39 };\n    if held.len() == ENTRIES { return 33 }/
+store 30 before 33	/pub fn put/,/let Some/s/return 39 };/return 39 };\n    if block.len() > bytes.len() { return 30 }/
+store drop leaves a gap	/pub fn drop/,/^}/s/held.remove(k);/held[k].1.clear();/
+store drop of the last	/pub fn drop/,/^}/s/held.remove(k);/held.pop();/
+store destination may be longer	s/if out.len() != block.len() {/if out.len() < block.len() {/;s/out.copy_from_slice(block);/out[..block.len()].copy_from_slice(block);/
+store tile twice let pass	/^fn read/,/^}/s/if held.iter().any(|&(other, _)| other == tile)/if false/
+store parts leave the buffer	s/rest.split_at_checked(length)?/rest.split_at(length.min(rest.len()))/
+store another buffer taken	s/bytes.len() != list\[0\]/bytes.len() < list[0]/
+store any room taken	s/ || list\[0\] > MOST//
+store list one longer taken	s/if list.len() != ENTRIES + 2 || tiles.len() != ENTRIES || list\[0\]/if list.len() < ENTRIES + 2 || tiles.len() != ENTRIES || list[0]/
+store 39 before 37	/pub fn set_up/,/^}/s/if bytes.len() > MOST {/if list.len() != ENTRIES + 2 { return 39 }\n    if bytes.len() > MOST {/
+store set-up keeps blocks	/pub fn set_up/,/^}/s/    list\[1\] = 0;//
+store length off by one	s/(0, block.len())/(0, block.len() + 1)/
 TABLE
 exit $left

@@ -66,7 +66,7 @@ cases: $(ORACLE)/oracle
 	$(ORACLE)/oracle blocks-wanted >crates/blocks/stdout
 
 # The patched functions behind the C entries, for trying a test or a driver: one object, no other name visible.
-$(ORACLE)/libcrewelmarsh_oracle.a: oracle/src/entries.rs oracle/src/block.rs oracle/src/patched.rs oracle/src/hypot.rs | has-rustc
+$(ORACLE)/libcrewelmarsh_oracle.a: oracle/src/entries.rs oracle/src/block.rs oracle/src/store.rs oracle/src/patched.rs oracle/src/hypot.rs | has-rustc
 	mkdir -p $(ORACLE)
 	$(ORACLE_RUSTC) -C panic=abort --crate-type staticlib --crate-name crewelmarsh_oracle $< -o $(ORACLE)/all.a
 	ld -r --gc-sections $(ORACLE_ENTRIES:%=-u crewelmarsh_%) -o $(ORACLE)/one.o $(ORACLE)/all.a
@@ -132,7 +132,7 @@ $(ORACLE)/triple_kit.o: oracle/triple.c
 	@mkdir -p $(ORACLE)
 	$(CLANG) $(OWN_CLANG) -DTRIPLE=triple_kit -c $< -o $@
 
-$(ORACLE)/bench: oracle/bench.rs oracle/bench_covariance.rs $(ORACLE)/liboracle.rlib $(MEASURED) $(TRIPLES)
+$(ORACLE)/bench: oracle/bench.rs oracle/bench_covariance.rs oracle/bench_store.rs $(ORACLE)/liboracle.rlib $(MEASURED) $(TRIPLES)
 	$(ORACLE_RUSTC) --extern oracle=$(ORACLE)/liboracle.rlib -C link-arg=$(MEASURED) $(TRIPLES:%=-C link-arg=%) $< -o $@
 
 bench: $(ORACLE)/bench
@@ -145,6 +145,10 @@ bench-blocks: $(ORACLE)/bench
 # The covariance's rows alone.
 bench-covariance: $(ORACLE)/bench
 	$(ORACLE)/bench covariance
+
+# The store's rows alone.
+bench-store: $(ORACLE)/bench
+	$(ORACLE)/bench store
 
 # The root as it is compiled, held to the processor's and measured beside it and beside what stood there before, and both editions of hypot; no archive and no
 # rustc.
@@ -178,6 +182,6 @@ $(ORACLE)/covariance: oracle/covariance.c $(ARCHIVE)
 RUN_COVARIANCE = $(KIT_TOOLS)/bin/qemu-x86_64 $(KIT_TOOLS)/lib/ld-linux-x86-64.so.2 --library-path $(KIT_TOOLS)/lib $(ORACLE)/covariance
 endif
 
-.PHONY: compare-covariance bench-covariance
+.PHONY: compare-covariance bench-covariance bench-store
 compare-covariance: $(ORACLE)/covariance
 	$(RUN_COVARIANCE) $(SEED) $(COVARIANCE_CASES)

@@ -29,5 +29,7 @@ int main(void)
     test_blocks();
     group("covariance");
     test_covariance();
+    group("store");
+    test_store();
     return report();
 }

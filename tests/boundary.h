@@ -92,5 +92,6 @@ void test_sizes(void);
 void test_numbers(void);
 void test_blocks(void);
 void test_covariance(void);
+void test_store(void);
 
 #endif

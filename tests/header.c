@@ -45,7 +45,7 @@ SAME(covariance_matrix, CREWELMARSH_COVARIANCE_MATRIX_LEN(3), 9);
 #error "the version is no number"
 #endif
 
-/* "3.0.0", of one digit each until one has more. */
+/* "3.1.0", of one digit each until one has more. */
 static int version_right(void)
 {
     const char *v = CREWELMARSH_VERSION;
@@ -75,16 +75,26 @@ static int covariance_constants_right(void)
            CREWELMARSH_MAX_SAMPLES == 65536;
 }
 
+/* Those of the store. */
+static int store_constants_right(void)
+{
+    return CREWELMARSH_STORE_FULL == 30 && CREWELMARSH_STORE_HELD == 31 && CREWELMARSH_STORE_MISSING == 32 &&
+           CREWELMARSH_STORE_ENTRIES == 33 && CREWELMARSH_STORE_BUFFER == 37 && CREWELMARSH_STORE_DAMAGED == 39 &&
+           CREWELMARSH_STORE_ENTRIES_MOST == 64 && CREWELMARSH_STORE_LIST_LEN == 66 && CREWELMARSH_STORE_TILES_LEN == 64 &&
+           CREWELMARSH_STORE_BYTES_MOST == 65536;
+}
+
 /* The text of each number differs from the others, and from the one that all other numbers have. */
 static int texts_differ(void)
 {
-    static const size_t numbers[] = {0, 1, 2, 3, 4, 5, 6, 7, 8, 9, 10, 11, 12, 20, 21, 22, 23, 24, 25, 26, (size_t)-1};
+    static const size_t numbers[] = {0, 1, 2, 3, 4, 5, 6, 7, 8, 9, 10, 11, 12, 20, 21, 22, 23, 24, 25, 26, 30, 31, 32, 33, 37, 39, (size_t)-1};
     size_t a, b;
     for (a = 0; a < sizeof numbers / sizeof numbers[0]; a++)
         for (b = 0; b < a; b++)
             if (strcmp(crewelmarsh_text(numbers[a]), crewelmarsh_text(numbers[b])) == 0)
                 return 0;
-    return strcmp(crewelmarsh_text(13), crewelmarsh_text((size_t)-1)) == 0 && strcmp(crewelmarsh_text(19), crewelmarsh_text(27)) == 0;
+    return strcmp(crewelmarsh_text(13), crewelmarsh_text((size_t)-1)) == 0 && strcmp(crewelmarsh_text(19), crewelmarsh_text(27)) == 0 &&
+           strcmp(crewelmarsh_text(36), crewelmarsh_text(40)) == 0;
 }
 
 static int square_lengths_right(size_t n)
@@ -164,6 +174,19 @@ static int in_order(void)
     return a.answer == 1 && a.place == 2 && a.index == 3 && a.count == 4;
 }
 
+/* An empty block in a store of no byte. */
+static int store_links(void)
+{
+    size_t list[CREWELMARSH_STORE_LIST_LEN];
+    uint16_t tiles[CREWELMARSH_STORE_TILES_LEN];
+    return is_answer(crewelmarsh_store_setup(list, CREWELMARSH_STORE_LIST_LEN, tiles, CREWELMARSH_STORE_TILES_LEN, NULL, 0), 0, 0, 0) &&
+           is_answer(crewelmarsh_store_put(list, 66, tiles, 64, NULL, 0, 7, NULL, 0), 0, 0, 0) &&
+           is_answer(crewelmarsh_store_length(list, 66, tiles, 64, NULL, 0, 7), 0, 0, 0) &&
+           is_answer(crewelmarsh_store_fetch(list, 66, tiles, 64, NULL, 0, 7, NULL, 0), 0, 0, 0) &&
+           is_answer(crewelmarsh_store_drop(list, 66, tiles, 64, NULL, 0, 7), 0, 0, 0) &&
+           is_answer(crewelmarsh_store_drop(list, 66, tiles, 64, NULL, 0, 7), 32, 0, 0);
+}
+
 /* An svd runs one sweep over no pair; the others do nothing. */
 static int entries_link(void)
 {
@@ -204,6 +227,8 @@ void TEST_HEADER(void (*check)(int good, const char *what))
         for (j = 0; j < DIMENSIONS; j++)
             check(covariance_lengths_right(dimensions[i], dimensions[j]), "lengths of covariance");
     check(is_answer(crewelmarsh_covariance(0, 1, NULL, 0, NULL, 0), 0, 0, 0), "covariance of no band");
+    check(store_constants_right(), "constants of the store");
+    check(store_links(), "the store");
     check(rows_right(), "rows of V^T");
     check(empty_rows_right(), "empty rows of V^T");
     check(entries_link(), "entries");

@@ -8,6 +8,7 @@ mod block;
 mod hypot;
 #[allow(dead_code)]
 mod patched;
+mod store;
 
 use patched::Answer;
 use std::slice;
@@ -274,4 +275,83 @@ pub unsafe extern "C" fn crewelmarsh_covariance_abi3(
         let samples = if samples_len == 0 { &[] } else { slice::from_raw_parts(samples, samples_len) };
         covariance(n, count, samples, lent_mut(matrix, matrix_len))
     }
+}
+
+// ---------------------------------------------------------------- the store
+
+unsafe fn of<'a, T>(start: *const T, len: usize) -> &'a [T] {
+    if len == 0 { &[] } else { unsafe { slice::from_raw_parts(start, len) } }
+}
+
+unsafe fn of_mut<'a, T>(start: *mut T, len: usize) -> &'a mut [T] {
+    if len == 0 { &mut [] } else { unsafe { slice::from_raw_parts_mut(start, len) } }
+}
+
+#[unsafe(no_mangle)]
+pub unsafe extern "C" fn crewelmarsh_store_setup_abi3(
+    list: *mut usize,
+    list_len: usize,
+    tiles: *const u16,
+    tiles_len: usize,
+    bytes: *const u8,
+    bytes_len: usize,
+) -> Answer {
+    unsafe { refused(store::set_up(of_mut(list, list_len), of(tiles, tiles_len), of(bytes, bytes_len))) }
+}
+
+#[unsafe(no_mangle)]
+pub unsafe extern "C" fn crewelmarsh_store_put_abi3(
+    list: *mut usize,
+    list_len: usize,
+    tiles: *mut u16,
+    tiles_len: usize,
+    bytes: *mut u8,
+    bytes_len: usize,
+    tile: u16,
+    block: *const u8,
+    block_len: usize,
+) -> Answer {
+    unsafe { refused(store::put(of_mut(list, list_len), of_mut(tiles, tiles_len), of_mut(bytes, bytes_len), tile, of(block, block_len))) }
+}
+
+#[unsafe(no_mangle)]
+pub unsafe extern "C" fn crewelmarsh_store_length_abi3(
+    list: *const usize,
+    list_len: usize,
+    tiles: *const u16,
+    tiles_len: usize,
+    bytes: *const u8,
+    bytes_len: usize,
+    tile: u16,
+) -> Answer {
+    let (answer, count) = unsafe { store::length(of(list, list_len), of(tiles, tiles_len), of(bytes, bytes_len), tile) };
+    Answer { answer, place: 0, index: 0, count }
+}
+
+#[unsafe(no_mangle)]
+pub unsafe extern "C" fn crewelmarsh_store_fetch_abi3(
+    list: *const usize,
+    list_len: usize,
+    tiles: *const u16,
+    tiles_len: usize,
+    bytes: *const u8,
+    bytes_len: usize,
+    tile: u16,
+    out: *mut u8,
+    out_len: usize,
+) -> Answer {
+    unsafe { refused(store::fetch(of(list, list_len), of(tiles, tiles_len), of(bytes, bytes_len), tile, of_mut(out, out_len))) }
+}
+
+#[unsafe(no_mangle)]
+pub unsafe extern "C" fn crewelmarsh_store_drop_abi3(
+    list: *mut usize,
+    list_len: usize,
+    tiles: *mut u16,
+    tiles_len: usize,
+    bytes: *mut u8,
+    bytes_len: usize,
+    tile: u16,
+) -> Answer {
+    unsafe { refused(store::drop(of_mut(list, list_len), of_mut(tiles, tiles_len), of_mut(bytes, bytes_len), tile)) }
 }

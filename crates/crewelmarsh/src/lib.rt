@@ -11,6 +11,7 @@ ghost use Rattle.blockread.specs.Held.{shapeOf};
 ghost use Rattle.blockread.specs.Lookup.{found, copied};
 ghost use Rattle.blockwrite.specs.Writing.{given, doubles, lengthOf, written};
 ghost use Rattle.covariance.specs.Covariance.{covariance};
+ghost use Rattle.storemap.specs.Store.{setUp, putOf, lengthHeld, fetchOf, dropOf};
 use answers::Answer;
 use blockread::Found;
 use blockread::Shape;
@@ -193,4 +194,67 @@ pub extern "C" fn crewelmarsh_covariance_abi3(
     ensures { λ r. ⌜ (r, now (matrix .exit)) ≡ covariance n count (now (samples .entry)) (now (matrix .entry)) ⌝ }
 {
     covariance::covariance(n, count, samples, matrix)
+}
+
+// ---- the store, with 64 entries
+
+#[no_mangle]
+pub extern "C" fn crewelmarsh_store_setup_abi3(
+    list: &mut [usize],
+    tiles: &[u16],
+    bytes: &[u8],
+) -> Answer
+    ensures { λ r. ⌜ (r, now (list .exit)) ≡ setUp 64 (now (list .entry)) (now (tiles .entry)) (now (bytes .entry)) ⌝ }
+{
+    store::set_up(64, list, tiles, bytes)
+}
+
+#[no_mangle]
+pub extern "C" fn crewelmarsh_store_put_abi3(
+    list: &mut [usize],
+    tiles: &mut [u16],
+    bytes: &mut [u8],
+    tile: u16,
+    block: &[u8],
+) -> Answer
+    ensures { λ r. ⌜ (r, now (list .exit), now (tiles .exit), now (bytes .exit)) ≡ putOf 64 (now (list .entry)) (now (tiles .entry)) (now (bytes .entry)) tile (now (block .entry)) ⌝ }
+{
+    store::put(64, list, tiles, bytes, tile, block)
+}
+
+#[no_mangle]
+pub extern "C" fn crewelmarsh_store_length_abi3(
+    list: &[usize],
+    tiles: &[u16],
+    bytes: &[u8],
+    tile: u16,
+) -> Answer
+    ensures { λ r. ⌜ r ≡ lengthHeld 64 (now (list .entry)) (now (tiles .entry)) (now (bytes .entry)) tile ⌝ }
+{
+    store::length_of(64, list, tiles, bytes, tile)
+}
+
+#[no_mangle]
+pub extern "C" fn crewelmarsh_store_fetch_abi3(
+    list: &[usize],
+    tiles: &[u16],
+    bytes: &[u8],
+    tile: u16,
+    out: &mut [u8],
+) -> Answer
+    ensures { λ r. ⌜ (r, now (out .exit)) ≡ fetchOf 64 (now (list .entry)) (now (tiles .entry)) (now (bytes .entry)) tile (now (out .entry)) ⌝ }
+{
+    store::fetch(64, list, tiles, bytes, tile, out)
+}
+
+#[no_mangle]
+pub extern "C" fn crewelmarsh_store_drop_abi3(
+    list: &mut [usize],
+    tiles: &mut [u16],
+    bytes: &mut [u8],
+    tile: u16,
+) -> Answer
+    ensures { λ r. ⌜ (r, now (list .exit), now (tiles .exit), now (bytes .exit)) ≡ dropOf 64 (now (list .entry)) (now (tiles .entry)) (now (bytes .entry)) tile ⌝ }
+{
+    store::drop_tile(64, list, tiles, bytes, tile)
 }

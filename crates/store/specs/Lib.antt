@@ -1,0 +1,3 @@
+-- The laws that the store's code goes by.
+pub mod LoopLaws
+pub mod BitLaws

@@ -1,0 +1,2 @@
+-- A worked sequence of calls, and lists that are refused, computed.
+pub mod Worked
