@@ -217,31 +217,33 @@ static int pass_as_block(void)
     return largest_difference(own_values, values_back, BANDS) == 0 && largest_difference(vectors, vectors_back, BANDS * BANDS) == 0;
 }
 
-/* The block of a tile: BANDS values, the first of which is the tile's number. */
-enum { TILES = 6, TILE_BLOCK = 12 + 12 + 8 * BANDS };
+/* The block of an image's tile: BANDS values, the first of which are the image's and the tile's numbers. */
+enum { IMAGES = 2, TILES = 3, TILE_BLOCK = 12 + 12 + 8 * BANDS };
 
-static int make_tile(uint16_t tile, unsigned char *block)
+static int make_tile(size_t image, uint16_t tile, unsigned char *block)
 {
-    double own[BANDS] = {0, 1, 2, 3, 4};
-    own[0] = tile;
+    double own[BANDS] = {0, 0, 2, 3, 4};
+    own[0] = (double)image;
+    own[1] = tile;
     return done("block_write", crewelmarsh_block_write(BANDS, BANDS, 1, CREWELMARSH_VALUES, own, BANDS, 0, NULL, 0, 0, NULL, 0, block, TILE_BLOCK));
 }
 
-/* The store's three arrays, as each of its calls takes them. Its buffer has room for five blocks. */
+/* The store's three arrays, as each of its calls takes them. Each image is an owner, with room for two blocks. */
 static size_t list[CREWELMARSH_STORE_LIST_LEN];
 static uint16_t tiles[CREWELMARSH_STORE_TILES_LEN];
-static unsigned char bytes[5 * TILE_BLOCK];
+static unsigned char bytes[IMAGES * 2 * TILE_BLOCK];
 #define STORE list, CREWELMARSH_STORE_LIST_LEN, tiles, CREWELMARSH_STORE_TILES_LEN, bytes, sizeof bytes
 
-/* The tile that is next is taken out of the store, as long as it is there. */
-static int take_next(uint16_t *next)
+/* The tile that is an image's next is taken out of the store, as long as it is there. */
+static int take_next(size_t image, uint16_t *next)
 {
     unsigned char block[TILE_BLOCK];
     double own[BANDS];
-    while (crewelmarsh_store_length(STORE, *next).answer == CREWELMARSH_DONE) {
-        if (!done("store_fetch", crewelmarsh_store_fetch(STORE, *next, block, sizeof block)) ||
-            !done("store_drop", crewelmarsh_store_drop(STORE, *next)) ||
-            !done("block_copy", crewelmarsh_block_copy(block, sizeof block, NULL, 0, CREWELMARSH_VALUES, own, BANDS)) || own[0] != *next)
+    while (crewelmarsh_store_length(image, STORE, *next).answer == CREWELMARSH_DONE) {
+        if (!done("store_fetch", crewelmarsh_store_fetch(image, STORE, *next, block, sizeof block)) ||
+            !done("store_drop", crewelmarsh_store_drop(image, STORE, *next)) ||
+            !done("block_copy", crewelmarsh_block_copy(block, sizeof block, NULL, 0, CREWELMARSH_VALUES, own, BANDS)) ||
+            own[0] != (double)image || own[1] != *next)
             return 0;
         printf(" %u", *next);
         *next += 1;
@@ -249,25 +251,32 @@ static int take_next(uint16_t *next)
     return 1;
 }
 
-/* Tiles come out of order and are decoded in order: each block waits in the store for its turn. */
+/* Tiles of two images come out of order and are decoded in order: each block waits in the store for its turn. */
 static int keep_tiles(void)
 {
-    static const uint16_t order[TILES] = {2, 0, 4, 1, 5, 3};
+    static const struct { size_t image; uint16_t tile; } order[IMAGES * TILES] = {{0, 2}, {1, 1}, {0, 0}, {1, 2}, {0, 1}, {1, 0}};
     unsigned char block[TILE_BLOCK];
-    uint16_t next = 0;
+    uint16_t next[IMAGES] = {0, 0};
     int i;
-    if (!done("store_setup", crewelmarsh_store_setup(STORE)))
+    if (!done("store_setup", crewelmarsh_store_setup(2 * TILE_BLOCK, 2 * TILE_BLOCK, STORE)))
         return 0;
-    for (i = 0; i < TILES; i++) {
-        uint16_t waiting = next;
-        if (!make_tile(order[i], block) || !done("store_put", crewelmarsh_store_put(STORE, order[i], block, sizeof block)))
+    for (i = 0; i < IMAGES * TILES; i++) {
+        size_t image = order[i].image;
+        uint16_t waiting = next[image];
+        if (!make_tile(image, order[i].tile, block))
             return 0;
-        printf("store: tile %u came, decoded", order[i]);
-        if (!take_next(&next))
+        printf("store: tile %u of image %zu came, decoded", order[i].tile, image);
+        /* The next tile need not wait, and so needs no room. */
+        if (order[i].tile == waiting) {
+            printf(" %u", order[i].tile);
+            next[image] += 1;
+        } else if (!done("store_put", crewelmarsh_store_put(image, STORE, order[i].tile, block, sizeof block)))
             return 0;
-        printf("%s, %zu held\n", next == waiting ? " none" : "", list[1]);
+        if (!take_next(image, &next[image]))
+            return 0;
+        printf("%s, %zu and %zu held\n", next[image] == waiting ? " none" : "", list[2], list[36]);
     }
-    return next == TILES;
+    return next[0] == TILES && next[1] == TILES;
 }
 
 /* What a refusal looks like: 257 bands, and bands with no sample. */
@@ -275,7 +284,7 @@ static void refuse(void)
 {
     done("symmetric_eigen of 257", crewelmarsh_symmetric_eigen(257, 60, CREWELMARSH_EDITION_1, NULL, 0, NULL, 0, NULL, 0));
     done("covariance of no sample", crewelmarsh_covariance(3, 0, NULL, 0, NULL, 0));
-    done("store_drop of a tile that is gone", crewelmarsh_store_drop(STORE, 3));
+    done("store_drop of a tile that is gone", crewelmarsh_store_drop(1, STORE, 2));
 }
 
 int main(void)

@@ -22,13 +22,14 @@
  *
  * crewelmarsh_covariance makes the matrix that symmetric_eigen takes from bands of 16-bit samples, exactly.
  *
- * Five keep blocks of bytes under tile numbers, in one buffer (see THE STORE below):
+ * Six keep blocks of bytes under tile numbers, for two owners in one buffer (see THE STORE below):
  *
  *     crewelmarsh_store_setup       an empty store
- *     crewelmarsh_store_put         a block under a tile number
+ *     crewelmarsh_store_put         a block under an owner's tile number
  *     crewelmarsh_store_length      how long a tile's block is
  *     crewelmarsh_store_fetch       a tile's block
  *     crewelmarsh_store_drop        a tile's block gone, its room free
+ *     crewelmarsh_store_reset       both owners' blocks gone
  *
  * WHAT IS ASKED OF A CALLER
  *
@@ -106,10 +107,10 @@
  *
  * WHICH LIBRARY
  *
- * In the library each entry's name ends in the major version, crewelmarsh_svd_abi3, and this header maps
+ * In the library each entry's name ends in the major version, crewelmarsh_svd_abi4, and this header maps
  * the plain name to it: that is what nm, a debugger and the linker show. So a program compiled with a
- * header of another major version doesn't link, and "undefined reference to crewelmarsh_svd_abi3" says
- * that the library is missing or is not of major version 3.
+ * header of another major version doesn't link, and "undefined reference to crewelmarsh_svd_abi4" says
+ * that the library is missing or is not of major version 4.
  */
 #ifndef CREWELMARSH_H
 #define CREWELMARSH_H
@@ -122,8 +123,8 @@
  * must be compiled anew. Another minor: something was added, or the bits of a result changed. Else another
  * patch.
  */
-#define CREWELMARSH_VERSION_MAJOR 3
-#define CREWELMARSH_VERSION_MINOR 1
+#define CREWELMARSH_VERSION_MAJOR 4
+#define CREWELMARSH_VERSION_MINOR 0
 #define CREWELMARSH_VERSION_PATCH 0
 #define CREWELMARSH_VERSION /* as a string */ \
     CREWELMARSH_DOTTED(CREWELMARSH_VERSION_MAJOR, CREWELMARSH_VERSION_MINOR, CREWELMARSH_VERSION_PATCH)
@@ -146,6 +147,7 @@
 #define crewelmarsh_store_length CREWELMARSH_NAME(store_length)
 #define crewelmarsh_store_fetch CREWELMARSH_NAME(store_fetch)
 #define crewelmarsh_store_drop CREWELMARSH_NAME(store_drop)
+#define crewelmarsh_store_reset CREWELMARSH_NAME(store_reset)
 
 /* The numbers are put in first, then pasted or quoted. */
 #define CREWELMARSH_NAME(name) CREWELMARSH_NUMBERED(crewelmarsh_##name##_abi, CREWELMARSH_VERSION_MAJOR)
@@ -293,29 +295,38 @@ enum {
 
 /* Those of the store. Place 0; each leaves the store and the destination untouched. */
 enum {
-    /* The lengths of the blocks held and of the new one together exceed the room (put).
-       Drop tiles that are done with, or give the store a larger buffer. */
+    /* The lengths of the blocks that the owner holds and of the new one together exceed its quota (put).
+       Drop tiles that are done with, or give the owner a larger quota. */
     CREWELMARSH_STORE_FULL = 30,
 
-    /* The tile is held already (put).
+    /* The owner holds the tile already (put).
        Drop it first where the new block is to take its place. */
     CREWELMARSH_STORE_HELD = 31,
 
-    /* The tile is not held (length, fetch, drop).
-       It has not come yet, or was dropped. */
+    /* The owner doesn't hold the tile (length, fetch, drop).
+       It has not come yet, or was dropped, or is the other owner's. */
     CREWELMARSH_STORE_MISSING = 32,
 
-    /* 64 blocks are held (put).
+    /* The owner holds 32 blocks (put).
        Drop tiles that are done with. */
     CREWELMARSH_STORE_ENTRIES = 33,
+
+    /* The owner is not 0 or 1. */
+    CREWELMARSH_STORE_OWNER = 34,
+
+    /* The quotas together exceed the buffer's length (setup).
+       Give one of them less, or both a larger buffer. */
+    CREWELMARSH_STORE_QUOTAS = 35,
 
     /* The buffer is over 65,536 bytes (setup).
        Pass a smaller length; more buffers are more stores. */
     CREWELMARSH_STORE_BUFFER = 37,
 
-    /* These arrays are no store that a setup and calls left: a length is not that of the setup, more than 64 are held,
-       the lengths of those together exceed the room, or a tile stands twice. In setup: list or tiles have a wrong length.
-       Something else wrote into list or tiles, or the setup was forgotten. What is held can't be trusted: set up anew. */
+    /* These arrays are no store that a setup and calls left: a length is not that of the setup, the quotas exceed the room, or
+       the owner's list says that more than 32 are held, that they exceed its quota, or a tile twice. In setup: list or tiles have
+       a wrong length. The other owner's list isn't looked at.
+       Something else wrote into list or tiles, or the setup was forgotten. What is held can't be trusted. A reset mends an
+       owner's list, and empties both; if it answers 39 too, set up anew. */
     CREWELMARSH_STORE_DAMAGED = 39
 };
 
@@ -343,10 +354,12 @@ static inline const char *crewelmarsh_text(size_t answer)
     case CREWELMARSH_BLOCK_OFFSET: return "an offset of the block is bad";
     case CREWELMARSH_SAMPLES: return "the number of samples is outside 1 to 65,536";
     case CREWELMARSH_ENTRY_OVER: return "an entry is over 2^53";
-    case CREWELMARSH_STORE_FULL: return "the store has no room for the block";
+    case CREWELMARSH_STORE_FULL: return "the owner's quota has no room for the block";
     case CREWELMARSH_STORE_HELD: return "the tile is held already";
     case CREWELMARSH_STORE_MISSING: return "the tile is not held";
-    case CREWELMARSH_STORE_ENTRIES: return "the store holds as many blocks as it may";
+    case CREWELMARSH_STORE_ENTRIES: return "the owner holds as many blocks as it may";
+    case CREWELMARSH_STORE_OWNER: return "the owner is not 0 or 1";
+    case CREWELMARSH_STORE_QUOTAS: return "the quotas exceed the store's buffer";
     case CREWELMARSH_STORE_BUFFER: return "the store's buffer is over 65,536 bytes";
     case CREWELMARSH_STORE_DAMAGED: return "the store's arrays are not what its calls left";
     default: return "no answer of crewelmarsh";
@@ -810,50 +823,60 @@ struct crewelmarsh_answer crewelmarsh_covariance(
 /*
  * THE STORE
  *
- * A store keeps blocks of bytes, any bytes, under tile numbers 0 to 65,535: up to 64 blocks in one buffer of up to 65,536
- * bytes, each given back just as it was put. Any sequence of these calls answers as a plain map from tiles to bytes does
- * (T27 of docs/PROMISES.md), as long as nothing else writes into the three arrays between them. A block may be empty.
+ * A store keeps blocks of bytes, any bytes, under tile numbers 0 to 65,535, each given back just as it was put. It has two
+ * owners, 0 and 1, as two images that are decoded at a time: each has up to 32 blocks, and a quota of the buffer's bytes that is
+ * fixed at setup. Tile numbers are per owner. A block may be empty.
+ *
+ * An owner's calls answer as a plain map from tiles to bytes does, whatever the other one puts and drops in between, and no
+ * call changes a byte of the other's part (T27 and T28 of docs/PROMISES.md), as long as nothing else writes into the three
+ * arrays. With one image, use owner 0 with the whole buffer as its quota, and 0 for the other.
  *
  * The caller lends the same three arrays to each call, and nothing is kept elsewhere:
  *
- *     list    66 numbers: the room, which is the buffer's length; how many blocks are held; a length for each entry
- *     tiles   64 numbers, a tile for each entry
- *     bytes   the buffer, as long as at setup. It has the blocks and nothing else, one behind the other from its start on
+ *     list    69 numbers: the room, which is the buffer's length; then for each owner 34: its quota, how many blocks it
+ *             holds, a length for each of 32 entries
+ *     tiles   64 numbers: a tile for each entry of owner 0, then of owner 1
+ *     bytes   the buffer, as long as at setup: first owner 0's bytes, as many as its quota, then owner 1's. Each has its
+ *             blocks and nothing else, one behind the other
  *
- * They need no old contents before setup. list[0] and list[1] may be read at any time. All arrays may be copied or moved
- * to other memory between two calls.
+ * They need no old contents before setup. So list[2] and list[36] are how many blocks each holds, and may be read at any
+ * time. All arrays may be copied or moved to other memory between two calls.
  *
- * The room of a dropped block is free at once: the blocks behind it move down. So a pointer into the buffer is of no use
- * after a drop. Each call looks the whole list through first, and then for the tile: some microseconds at most.
+ * The room of a dropped block is free at once: the owner's blocks behind it move down. So a pointer into the buffer is of no
+ * use after a drop. Each call looks the owner's list through first, and then for the tile: less than a microsecond.
  */
 enum {
-    CREWELMARSH_STORE_ENTRIES_MOST = 64,
-    CREWELMARSH_STORE_LIST_LEN = 2 + 64,
-    CREWELMARSH_STORE_TILES_LEN = 64,
+    CREWELMARSH_STORE_OWNERS = 2,
+    CREWELMARSH_STORE_ENTRIES_MOST = 32,
+    CREWELMARSH_STORE_LIST_LEN = 1 + 2 * (2 + 32),
+    CREWELMARSH_STORE_TILES_LEN = 2 * 32,
     CREWELMARSH_STORE_BYTES_MOST = 65536
 };
 
 /*
- * An empty store over this buffer, whatever the arrays held before. Also the way to empty one.
+ * An empty store over this buffer, whatever the arrays held before. The quotas may leave bytes over.
  *
- * Answers, index and count always 0, place 0:
- *   0
+ * Answers, index and count always 0, place 0, in this order:
  *   37 bytes_len is over 65,536
- *   39 list_len is not 66 or tiles_len not 64
- * Only 0 writes, and only to the first two numbers of the list.
+ *   35 quota0 and quota1 together are over bytes_len
+ *   39 list_len is not 69 or tiles_len not 64
+ * Only 0 writes, and only to five numbers of the list.
  */
 struct crewelmarsh_answer crewelmarsh_store_setup(
+    size_t quota0,
+    size_t quota1,
     size_t *list, size_t list_len,
     const uint16_t *tiles, size_t tiles_len,
     const unsigned char *bytes, size_t bytes_len);
 
 /*
- * Puts a block under a tile that has none.
+ * Puts a block under a tile of which the owner has none.
  *
  * Answers, index and count always 0, place 0, in this order; all but 0 leave everything untouched:
- *   39, 31, 33, 30
+ *   34, 39, 31, 33, 30
  */
 struct crewelmarsh_answer crewelmarsh_store_put(
+    size_t owner,
     size_t *list, size_t list_len,
     uint16_t *tiles, size_t tiles_len,
     unsigned char *bytes, size_t bytes_len,
@@ -863,9 +886,10 @@ struct crewelmarsh_answer crewelmarsh_store_put(
 /*
  * How long a tile's block is: `count`, on 0.
  *
- * Answers, place and index always 0: 39, 32
+ * Answers, place and index always 0, in this order: 34, 39, 32
  */
 struct crewelmarsh_answer crewelmarsh_store_length(
+    size_t owner,
     const size_t *list, size_t list_len,
     const uint16_t *tiles, size_t tiles_len,
     const unsigned char *bytes, size_t bytes_len,
@@ -874,11 +898,12 @@ struct crewelmarsh_answer crewelmarsh_store_length(
 /*
  * Copies a tile's block to `out`, which is as long as the block.
  *
- * Answers, index and count always 0, place 0; all but 0 leave out untouched:
- *   39, 32
+ * Answers, index and count always 0, place 0, in this order; all but 0 leave out untouched:
+ *   34, 39, 32
  *   6  out_len is not the block's length
  */
 struct crewelmarsh_answer crewelmarsh_store_fetch(
+    size_t owner,
     const size_t *list, size_t list_len,
     const uint16_t *tiles, size_t tiles_len,
     const unsigned char *bytes, size_t bytes_len,
@@ -888,13 +913,25 @@ struct crewelmarsh_answer crewelmarsh_store_fetch(
 /*
  * Drops a tile's block.
  *
- * Answers, index and count always 0, place 0; all but 0 leave everything untouched: 39, 32
+ * Answers, index and count always 0, place 0, in this order; all but 0 leave everything untouched: 34, 39, 32
  */
 struct crewelmarsh_answer crewelmarsh_store_drop(
+    size_t owner,
     size_t *list, size_t list_len,
     uint16_t *tiles, size_t tiles_len,
     unsigned char *bytes, size_t bytes_len,
     uint16_t tile);
+
+/*
+ * Drops all blocks of both owners. It belongs to neither, and doesn't look at what their lists hold, but at the lengths, the room and
+ * the quotas.
+ *
+ * Answers, index and count always 0, place 0: 39. Only 0 writes, and only to two numbers of the list.
+ */
+struct crewelmarsh_answer crewelmarsh_store_reset(
+    size_t *list, size_t list_len,
+    const uint16_t *tiles, size_t tiles_len,
+    const unsigned char *bytes, size_t bytes_len);
 
 #ifdef __cplusplus
 }

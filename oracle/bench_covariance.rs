@@ -1,6 +1,6 @@
 //! Times of the archive's covariance beside the plain triple loop in C, by two compilers, and the float way: to f64, less the mean, then BLAS.
 
-use super::{Answer, crewelmarsh_covariance_abi3, dlopen, dlsym, medians};
+use super::{Answer, crewelmarsh_covariance_abi4, dlopen, dlsym, medians};
 use oracle::cases::Random;
 use std::hint::black_box;
 
@@ -25,7 +25,7 @@ fn blas() -> Option<Dsyrk> {
 }
 
 fn covariance(n: usize, count: usize, samples: &[i16], matrix: &mut [f64]) -> Answer {
-    unsafe { crewelmarsh_covariance_abi3(n, count, samples.as_ptr(), samples.len(), matrix.as_mut_ptr(), matrix.len()) }
+    unsafe { crewelmarsh_covariance_abi4(n, count, samples.as_ptr(), samples.len(), matrix.as_mut_ptr(), matrix.len()) }
 }
 
 fn floats(n: usize, count: usize, samples: &[i16], planes: &mut [f64], matrix: &mut [f64], dsyrk: Dsyrk) {

@@ -1,11 +1,13 @@
 //! Times of the archive's store: what a call takes to look the list through and to find its tile, and how fast it moves bytes, beside `memmove`.
 
-use super::{crewelmarsh_store_drop_abi3, crewelmarsh_store_fetch_abi3, crewelmarsh_store_length_abi3, crewelmarsh_store_put_abi3, crewelmarsh_store_setup_abi3, medians};
+use super::{crewelmarsh_store_drop_abi4, crewelmarsh_store_fetch_abi4, crewelmarsh_store_length_abi4, crewelmarsh_store_put_abi4, crewelmarsh_store_setup_abi4, medians};
 use std::hint::black_box;
 
-const ENTRIES: usize = 64;
+const ENTRIES: usize = 32;
+const LIST: usize = 69;
+const TILES: usize = 64;
 
-/// A store of so many blocks, tile 0 the first.
+/// A store of so many blocks of owner 0, who has the whole buffer, tile 0 the first.
 #[derive(Clone)]
 struct Store {
     list: Vec<usize>,
@@ -15,9 +17,9 @@ struct Store {
 
 impl Store {
     fn new(lengths: &[usize]) -> Store {
-        let mut s = Store { list: vec![0; ENTRIES + 2], tiles: vec![0; ENTRIES], bytes: vec![0; 65536] };
+        let mut s = Store { list: vec![0; LIST], tiles: vec![0; TILES], bytes: vec![0; 65536] };
         let (list, tiles, bytes) = (s.list.as_mut_ptr(), s.tiles.as_ptr(), s.bytes.as_ptr());
-        assert_eq!(unsafe { crewelmarsh_store_setup_abi3(list, ENTRIES + 2, tiles, ENTRIES, bytes, 65536) }.answer, 0);
+        assert_eq!(unsafe { crewelmarsh_store_setup_abi4(65536, 0, list, LIST, tiles, TILES, bytes, 65536) }.answer, 0);
         for (tile, &length) in lengths.iter().enumerate() {
             s.put(tile as u16, &vec![tile as u8; length]);
         }
@@ -26,24 +28,24 @@ impl Store {
 
     fn put(&mut self, tile: u16, block: &[u8]) {
         let (list, tiles, bytes) = (self.list.as_mut_ptr(), self.tiles.as_mut_ptr(), self.bytes.as_mut_ptr());
-        let done = unsafe { crewelmarsh_store_put_abi3(list, ENTRIES + 2, tiles, ENTRIES, bytes, 65536, tile, block.as_ptr(), block.len()) };
+        let done = unsafe { crewelmarsh_store_put_abi4(0, list, LIST, tiles, TILES, bytes, 65536, tile, block.as_ptr(), block.len()) };
         assert_eq!(done.answer, 0);
     }
 
     fn length(&self, tile: u16) -> usize {
         let (list, tiles, bytes) = (self.list.as_ptr(), self.tiles.as_ptr(), self.bytes.as_ptr());
-        unsafe { crewelmarsh_store_length_abi3(list, ENTRIES + 2, tiles, ENTRIES, bytes, 65536, tile) }.count
+        unsafe { crewelmarsh_store_length_abi4(0, list, LIST, tiles, TILES, bytes, 65536, tile) }.count
     }
 
     fn fetch(&self, tile: u16, out: &mut [u8]) {
         let (list, tiles, bytes) = (self.list.as_ptr(), self.tiles.as_ptr(), self.bytes.as_ptr());
-        let done = unsafe { crewelmarsh_store_fetch_abi3(list, ENTRIES + 2, tiles, ENTRIES, bytes, 65536, tile, out.as_mut_ptr(), out.len()) };
+        let done = unsafe { crewelmarsh_store_fetch_abi4(0, list, LIST, tiles, TILES, bytes, 65536, tile, out.as_mut_ptr(), out.len()) };
         assert_eq!(done.answer, 0);
     }
 
     fn drop(&mut self, tile: u16) {
         let (list, tiles, bytes) = (self.list.as_mut_ptr(), self.tiles.as_mut_ptr(), self.bytes.as_mut_ptr());
-        let done = unsafe { crewelmarsh_store_drop_abi3(list, ENTRIES + 2, tiles, ENTRIES, bytes, 65536, tile) };
+        let done = unsafe { crewelmarsh_store_drop_abi4(0, list, LIST, tiles, TILES, bytes, 65536, tile) };
         assert_eq!(done.answer, 0);
     }
 
@@ -91,9 +93,9 @@ fn moved(n: usize) -> [f64; 4] {
 
 pub fn table() {
     println!("\nThe store. What a call takes before it moves a byte, in microseconds (`store_length` of the last tile):\n");
-    println!("| blocks held | time |");
+    println!("| blocks that the owner holds | time |");
     println!("|---|---|");
-    for held in [1, 8, 16, 32, 64] {
+    for held in [1, 8, 16, ENTRIES] {
         let s = Store::new(&vec![1; held]);
         let last = held as u16 - 1;
         let time = medians(&mut [&mut || assert_eq!(black_box(s.length(black_box(last))), 1)]);

@@ -131,21 +131,33 @@ block main before own	s/\[own, main\]/[main, own]/
 block values of a matrix's count	s/1 => Some(rows.min(columns))/1 => Some(rows * columns)/
 block written where it is short	s/if block.len() != out.len() {/if block.len() > out.len() {/
 block length where refused	s/Some(_) => 0,/Some(_) => 12,/
-store last byte refused	s/block.len() > bytes.len()/block.len() >= bytes.len()/
+store last byte refused	s/block.len() > list\[1 + owner \* OWN\]/block.len() >= list[1 + owner * OWN]/
+store quota of the other	s/block.len() > list\[1 + owner \* OWN\]/block.len() > list[1 + (1 - owner) * OWN]/
+store room for a quota	s/block.len() > list\[1 + owner \* OWN\]/block.len() > list[0]/
 store repeated tile taken	/pub fn put/,/return 31/s/if held.iter().any(|&(other, _)| other == tile)/if false/
-store 65 entries	/pub fn put/,/return 33/s/held.len() == ENTRIES/held.len() > ENTRIES/
-store 33 before 31	/pub fn put/,/let Some/s/return 39 };/return 39 };\n    if held.len() == ENTRIES { return 33 }/
-store 30 before 33	/pub fn put/,/let Some/s/return 39 };/return 39 };\n    if block.len() > bytes.len() { return 30 }/
+store 33 entries	/pub fn put/,/return 33/s/held.len() == ENTRIES/held.len() > ENTRIES/
+store 33 over both	/pub fn put/,/return 33/s/held.len() == ENTRIES/list[2] + list[2 + OWN] >= ENTRIES/
+store 33 before 31	/pub fn put/,/^}/s/    if held.iter().any/    if held.len() == ENTRIES { return 33 }\n    if held.iter().any/
+store 30 before 33	/pub fn put/,/^}/s/    if held.len() == ENTRIES/    if block.len() > list[1 + owner * OWN] { return 30 }\n    if held.len() == ENTRIES/
 store drop leaves a gap	/pub fn drop/,/^}/s/held.remove(k);/held[k].1.clear();/
 store drop of the last	/pub fn drop/,/^}/s/held.remove(k);/held.pop();/
+store drop of the other's	/pub fn drop/,/^}/s/lay(owner,/list[2 + (1 - owner) * OWN] = 0;\n    lay(owner,/
 store destination may be longer	s/if out.len() != block.len() {/if out.len() < block.len() {/;s/out.copy_from_slice(block);/out[..block.len()].copy_from_slice(block);/
 store tile twice let pass	/^fn read/,/^}/s/if held.iter().any(|&(other, _)| other == tile)/if false/
-store parts leave the buffer	s/rest.split_at_checked(length)?/rest.split_at(length.min(rest.len()))/
-store another buffer taken	s/bytes.len() != list\[0\]/bytes.len() < list[0]/
-store any room taken	s/ || list\[0\] > MOST//
-store list one longer taken	s/if list.len() != ENTRIES + 2 || tiles.len() != ENTRIES || list\[0\]/if list.len() < ENTRIES + 2 || tiles.len() != ENTRIES || list[0]/
-store 39 before 37	/pub fn set_up/,/^}/s/if bytes.len() > MOST {/if list.len() != ENTRIES + 2 { return 39 }\n    if bytes.len() > MOST {/
-store set-up keeps blocks	/pub fn set_up/,/^}/s/    list\[1\] = 0;//
+store parts leave the quota	s/let mut rest = &bytes\[start..start + own\[0\]\];/let mut rest = \&bytes[start..];/
+store another buffer taken	s/bytes.len() == list\[0\]/bytes.len() >= list[0]/
+store any room taken	s/ \&\& list\[0\] <= MOST//
+store quotas not looked at	s/ \&\& fits(list)//
+store list one longer taken	/^fn laid/,/^}/s/list.len() == LIST/list.len() >= LIST/
+store 39 before 34	/^fn read/,/^}/s/    if owner > 1 {/    if !laid(list, tiles, bytes) { return Err(39) }\n    if owner > 1 {/
+store owner 2 taken	/^fn read/,/^}/s/    if owner > 1 {/    if owner > 2 {/;s/tiles\[owner \* ENTRIES..\]/tiles[owner * ENTRIES % 64..]/;s/list\[1 + owner \* OWN..\]\[..OWN\];/list[1 + owner % 2 * OWN..][..OWN];/
+store other's list looked at	/^fn read/,/^}/s/if own\[1\] > ENTRIES {/if list[2] > ENTRIES || list[2 + OWN] > ENTRIES {/
+store 39 before 35	/pub fn set_up/,/^}/s/    if quota0.checked_add/    if list.len() != LIST { return 39 }\n    if quota0.checked_add/
+store 35 before 37	/pub fn set_up/,/^}/s/    if bytes.len() > MOST {/    if quota0 > MOST { return 35 }\n    if bytes.len() > MOST {/
+store quotas wrap	s/quota0.checked_add(quota1).is_none_or(|both| both > bytes.len())/quota0.wrapping_add(quota1) > bytes.len()/
+store set-up keeps blocks	/pub fn set_up/,/^}/s/list\[2 + owner \* OWN\] = 0;//
+store reset empties one	/pub fn reset/,/^}/s/for owner in 0..2/for owner in 0..1/
+store reset wants sound lists	/pub fn reset/,/^}/s/if !laid(list, tiles, bytes) {/if read(0, list, tiles, bytes).is_err() || read(1, list, tiles, bytes).is_err() {/
 store length off by one	s/(0, block.len())/(0, block.len() + 1)/
 TABLE
 exit $left

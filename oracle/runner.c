@@ -12,20 +12,20 @@ struct answer {
     word answer, place, index, count;
 };
 
-struct answer crewelmarsh_symmetric_eigen_abi3(word n, word limit, word edition, const double *, word, double *, word, double *, word);
-struct answer crewelmarsh_svd_abi3(word m, word n, word want_u, word want_vt, word limit, const double *, word, double *, word,
+struct answer crewelmarsh_symmetric_eigen_abi4(word n, word limit, word edition, const double *, word, double *, word, double *, word);
+struct answer crewelmarsh_svd_abi4(word m, word n, word want_u, word want_vt, word limit, const double *, word, double *, word,
                               double *, word);
-struct answer crewelmarsh_solve_abi3(word m, word n, word has_u, word has_vt, double tolerance, const double *, word,
+struct answer crewelmarsh_solve_abi4(word m, word n, word has_u, word has_vt, double tolerance, const double *, word,
                                 const double *, word, double *, word);
-struct answer crewelmarsh_pseudo_inverse_abi3(word m, word n, word has_u, word has_vt, double tolerance, const double *, word,
+struct answer crewelmarsh_pseudo_inverse_abi4(word m, word n, word has_u, word has_vt, double tolerance, const double *, word,
                                          double *, word);
-struct answer crewelmarsh_qr_q_abi3(word m, word k, const double *, word, double *, word);
+struct answer crewelmarsh_qr_q_abi4(word m, word k, const double *, word, double *, word);
 
 struct extent {
     word start, length;
 };
 
-struct extent crewelmarsh_vt_row_extent_abi3(word m, word n, word has_u, word has_vt, word result_len, word j);
+struct extent crewelmarsh_vt_row_extent_abi4(word m, word n, word has_u, word has_vt, word result_len, word j);
 
 enum { EIGEN = 1, SVD, SOLVE, PSEUDO_INVERSE, QR_Q, VT_ROW };
 
@@ -166,12 +166,12 @@ int main(void) {
         double *pa = slice(&a, turn), *pb = slice(&b, turn), *pw = slice(&work, turn), *pr = slice(&result, turn);
         double tolerance = number(p[4]);
         switch (f) {
-        case EIGEN: got = crewelmarsh_symmetric_eigen_abi3(p[0], p[1], p[2], pa, a.len, pw, work.len, pr, result.len); break;
-        case SVD: got = crewelmarsh_svd_abi3(p[0], p[1], p[2], p[3], p[4], pa, a.len, pw, work.len, pr, result.len); break;
-        case SOLVE: got = crewelmarsh_solve_abi3(p[0], p[1], p[2], p[3], tolerance, pa, a.len, pb, b.len, pr, result.len); break;
-        case PSEUDO_INVERSE: got = crewelmarsh_pseudo_inverse_abi3(p[0], p[1], p[2], p[3], tolerance, pa, a.len, pr, result.len); break;
-        case QR_Q: got = crewelmarsh_qr_q_abi3(p[0], p[1], pa, a.len, pr, result.len); break;
-        default: got.answer = row(crewelmarsh_vt_row_extent_abi3(p[0], p[1], p[2], p[3], a.len, p[4]));
+        case EIGEN: got = crewelmarsh_symmetric_eigen_abi4(p[0], p[1], p[2], pa, a.len, pw, work.len, pr, result.len); break;
+        case SVD: got = crewelmarsh_svd_abi4(p[0], p[1], p[2], p[3], p[4], pa, a.len, pw, work.len, pr, result.len); break;
+        case SOLVE: got = crewelmarsh_solve_abi4(p[0], p[1], p[2], p[3], tolerance, pa, a.len, pb, b.len, pr, result.len); break;
+        case PSEUDO_INVERSE: got = crewelmarsh_pseudo_inverse_abi4(p[0], p[1], p[2], p[3], tolerance, pa, a.len, pr, result.len); break;
+        case QR_Q: got = crewelmarsh_qr_q_abi4(p[0], p[1], pa, a.len, pr, result.len); break;
+        default: got.answer = row(crewelmarsh_vt_row_extent_abi4(p[0], p[1], p[2], p[3], a.len, p[4]));
         }
         int good = got.answer == wanted.answer && got.place == wanted.place && got.index == wanted.index && got.count == wanted.count;
         good &= untouched(&a) & untouched(&b);

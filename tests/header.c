@@ -41,11 +41,11 @@ SAME(covariance_over, CREWELMARSH_COVARIANCE_SAMPLES_LEN(3, 65537), 0);
 SAME(covariance_bands, CREWELMARSH_COVARIANCE_SAMPLES_LEN(257, 1), 0);
 SAME(covariance_matrix, CREWELMARSH_COVARIANCE_MATRIX_LEN(3), 9);
 
-#if CREWELMARSH_VERSION_MAJOR < 3
+#if CREWELMARSH_VERSION_MAJOR < 4
 #error "the version is no number"
 #endif
 
-/* "3.1.0", of one digit each until one has more. */
+/* "4.0.0", of one digit each until one has more. */
 static int version_right(void)
 {
     const char *v = CREWELMARSH_VERSION;
@@ -79,15 +79,16 @@ static int covariance_constants_right(void)
 static int store_constants_right(void)
 {
     return CREWELMARSH_STORE_FULL == 30 && CREWELMARSH_STORE_HELD == 31 && CREWELMARSH_STORE_MISSING == 32 &&
-           CREWELMARSH_STORE_ENTRIES == 33 && CREWELMARSH_STORE_BUFFER == 37 && CREWELMARSH_STORE_DAMAGED == 39 &&
-           CREWELMARSH_STORE_ENTRIES_MOST == 64 && CREWELMARSH_STORE_LIST_LEN == 66 && CREWELMARSH_STORE_TILES_LEN == 64 &&
+           CREWELMARSH_STORE_ENTRIES == 33 && CREWELMARSH_STORE_OWNER == 34 && CREWELMARSH_STORE_QUOTAS == 35 &&
+           CREWELMARSH_STORE_BUFFER == 37 && CREWELMARSH_STORE_DAMAGED == 39 && CREWELMARSH_STORE_OWNERS == 2 &&
+           CREWELMARSH_STORE_ENTRIES_MOST == 32 && CREWELMARSH_STORE_LIST_LEN == 69 && CREWELMARSH_STORE_TILES_LEN == 64 &&
            CREWELMARSH_STORE_BYTES_MOST == 65536;
 }
 
 /* The text of each number differs from the others, and from the one that all other numbers have. */
 static int texts_differ(void)
 {
-    static const size_t numbers[] = {0, 1, 2, 3, 4, 5, 6, 7, 8, 9, 10, 11, 12, 20, 21, 22, 23, 24, 25, 26, 30, 31, 32, 33, 37, 39, (size_t)-1};
+    static const size_t numbers[] = {0, 1, 2, 3, 4, 5, 6, 7, 8, 9, 10, 11, 12, 20, 21, 22, 23, 24, 25, 26, 30, 31, 32, 33, 34, 35, 37, 39, (size_t)-1};
     size_t a, b;
     for (a = 0; a < sizeof numbers / sizeof numbers[0]; a++)
         for (b = 0; b < a; b++)
@@ -179,12 +180,14 @@ static int store_links(void)
 {
     size_t list[CREWELMARSH_STORE_LIST_LEN];
     uint16_t tiles[CREWELMARSH_STORE_TILES_LEN];
-    return is_answer(crewelmarsh_store_setup(list, CREWELMARSH_STORE_LIST_LEN, tiles, CREWELMARSH_STORE_TILES_LEN, NULL, 0), 0, 0, 0) &&
-           is_answer(crewelmarsh_store_put(list, 66, tiles, 64, NULL, 0, 7, NULL, 0), 0, 0, 0) &&
-           is_answer(crewelmarsh_store_length(list, 66, tiles, 64, NULL, 0, 7), 0, 0, 0) &&
-           is_answer(crewelmarsh_store_fetch(list, 66, tiles, 64, NULL, 0, 7, NULL, 0), 0, 0, 0) &&
-           is_answer(crewelmarsh_store_drop(list, 66, tiles, 64, NULL, 0, 7), 0, 0, 0) &&
-           is_answer(crewelmarsh_store_drop(list, 66, tiles, 64, NULL, 0, 7), 32, 0, 0);
+    return is_answer(crewelmarsh_store_setup(0, 0, list, CREWELMARSH_STORE_LIST_LEN, tiles, CREWELMARSH_STORE_TILES_LEN, NULL, 0), 0, 0, 0) &&
+           is_answer(crewelmarsh_store_put(1, list, 69, tiles, 64, NULL, 0, 7, NULL, 0), 0, 0, 0) &&
+           is_answer(crewelmarsh_store_length(1, list, 69, tiles, 64, NULL, 0, 7), 0, 0, 0) &&
+           is_answer(crewelmarsh_store_fetch(1, list, 69, tiles, 64, NULL, 0, 7, NULL, 0), 0, 0, 0) &&
+           is_answer(crewelmarsh_store_drop(0, list, 69, tiles, 64, NULL, 0, 7), 32, 0, 0) &&
+           is_answer(crewelmarsh_store_drop(1, list, 69, tiles, 64, NULL, 0, 7), 0, 0, 0) &&
+           is_answer(crewelmarsh_store_reset(list, 69, tiles, 64, NULL, 0), 0, 0, 0) &&
+           is_answer(crewelmarsh_store_drop(2, list, 69, tiles, 64, NULL, 0, 7), 34, 0, 0);
 }
 
 /* An svd runs one sweep over no pair; the others do nothing. */

@@ -110,11 +110,12 @@ call block_copy '(NULL, 0, NULL, 0, 1, NULL, 0)' answer
 call block_length '(257, 0, 0, 0, 0, 0)'
 call block_write '(0, 0, 0, 0, NULL, 0, 0, NULL, 0, 0, NULL, 0, NULL, 0)' place
 call covariance '(0, 1, NULL, 0, NULL, 0)' answer
-call store_setup '(NULL, 0, NULL, 0, NULL, 0)' answer
-call store_put '(NULL, 0, NULL, 0, NULL, 0, 1, NULL, 0)' answer
-call store_length '(NULL, 0, NULL, 0, NULL, 0, 1)' count
-call store_fetch '(NULL, 0, NULL, 0, NULL, 0, 1, NULL, 0)' answer
-call store_drop '(NULL, 0, NULL, 0, NULL, 0, 1)' answer
+call store_setup '(0, 0, NULL, 0, NULL, 0, NULL, 0)' answer
+call store_put '(0, NULL, 0, NULL, 0, NULL, 0, 1, NULL, 0)' answer
+call store_length '(0, NULL, 0, NULL, 0, NULL, 0, 1)' count
+call store_fetch '(0, NULL, 0, NULL, 0, NULL, 0, 1, NULL, 0)' answer
+call store_drop '(0, NULL, 0, NULL, 0, NULL, 0, 1)' answer
+call store_reset '(NULL, 0, NULL, 0, NULL, 0)' answer
 
 warn='-Wall -Wextra -Wpedantic -Werror'
 a=$scratch/prefix/lib/libcrewelmarsh.a

@@ -1,13 +1,13 @@
-/* The store, held to a plain map in C: sequences of random calls, each refusal, damaged lists; guard words throughout. */
+/* The store of two owners, held to two plain maps in C: sequences of random calls by both, each refusal, damaged lists; guard words throughout. */
 #include <string.h>
 #include "boundary.h"
 
-enum { EDGE = 16, ENTRIES = 64, LIST = 66, ROOM = 65536, CALLS = 100000 };
+enum { EDGE = 16, ENTRIES = 32, OWN = 34, LIST = 69, TILES = 64, ROOM = 65536, CALLS = 100000 };
 
 /* The arrays between guards, and as they were before a call. */
 struct arrays {
     size_t list[EDGE + LIST + EDGE];
-    uint16_t tiles[EDGE + ENTRIES + EDGE];
+    uint16_t tiles[EDGE + TILES + EDGE];
     unsigned char bytes[EDGE + ROOM + EDGE + 2];
     unsigned char out[EDGE + ROOM + EDGE + 2];
 };
@@ -23,13 +23,15 @@ static struct {
     size_t list, tiles, bytes;
 } told;
 
-/* The plain map: tiles, lengths and bytes, in no order that the store knows of. */
-static struct {
-    size_t count, sum, room;
+/* An owner's plain map: tiles, lengths and bytes, in no order that the store knows of; and where its bytes are in the buffer. */
+struct map {
+    size_t count, sum, quota, start;
     uint16_t tile[ENTRIES];
     size_t length[ENTRIES];
     unsigned char bytes[ENTRIES][ROOM / 16];
-} map;
+};
+static struct map maps[2];
+static size_t room;
 
 /* Whole numbers below `bound`, the same in every run. */
 static unsigned draw(unsigned bound)
@@ -46,37 +48,29 @@ static void scramble(void *start, size_t length)
         *at++ = (unsigned char)draw(256);
 }
 
-static void tell(size_t room)
+static void tell(size_t length)
 {
     told.list = LIST;
-    told.tiles = ENTRIES;
-    told.bytes = room;
+    told.tiles = TILES;
+    told.bytes = length;
 }
 
 /* The entries, on the arrays as told. */
-static struct crewelmarsh_answer setup(void)
+#define ARRAYS list, told.list, tiles, told.tiles, bytes, told.bytes
+
+static struct crewelmarsh_answer setup(size_t quota0, size_t quota1) { return crewelmarsh_store_setup(quota0, quota1, ARRAYS); }
+static struct crewelmarsh_answer reset(void) { return crewelmarsh_store_reset(ARRAYS); }
+static struct crewelmarsh_answer length_of(size_t owner, uint16_t tile) { return crewelmarsh_store_length(owner, ARRAYS, tile); }
+static struct crewelmarsh_answer drop(size_t owner, uint16_t tile) { return crewelmarsh_store_drop(owner, ARRAYS, tile); }
+
+static struct crewelmarsh_answer put(size_t owner, uint16_t tile, size_t length)
 {
-    return crewelmarsh_store_setup(list, told.list, tiles, told.tiles, bytes, told.bytes);
+    return crewelmarsh_store_put(owner, ARRAYS, tile, length ? block : NULL, length);
 }
 
-static struct crewelmarsh_answer put(uint16_t tile, size_t length)
+static struct crewelmarsh_answer fetch(size_t owner, uint16_t tile, size_t length)
 {
-    return crewelmarsh_store_put(list, told.list, tiles, told.tiles, bytes, told.bytes, tile, length ? block : NULL, length);
-}
-
-static struct crewelmarsh_answer length_of(uint16_t tile)
-{
-    return crewelmarsh_store_length(list, told.list, tiles, told.tiles, bytes, told.bytes, tile);
-}
-
-static struct crewelmarsh_answer fetch(uint16_t tile, size_t length)
-{
-    return crewelmarsh_store_fetch(list, told.list, tiles, told.tiles, bytes, told.bytes, tile, length ? out : NULL, length);
-}
-
-static struct crewelmarsh_answer drop(uint16_t tile)
-{
-    return crewelmarsh_store_drop(list, told.list, tiles, told.tiles, bytes, told.bytes, tile);
+    return crewelmarsh_store_fetch(owner, ARRAYS, tile, length ? out : NULL, length);
 }
 
 static int is(struct crewelmarsh_answer a, size_t answer, size_t count)
@@ -101,129 +95,150 @@ static int untouched(void)
            memcmp(before.bytes, now.bytes, reach) == 0 && memcmp(before.out, now.out, reach) == 0;
 }
 
-/* Nothing outside of list, tiles and the room, and nothing of the destination. */
-static int guarded(void)
+/* Nothing outside of an owner's parts, the destination included; of its list the quota neither. */
+static int guarded(size_t owner)
 {
-    return memcmp(before.list, now.list, sizeof(size_t) * EDGE) == 0 &&
-           memcmp(before.list + EDGE + LIST, now.list + EDGE + LIST, sizeof(size_t) * EDGE) == 0 &&
-           memcmp(before.tiles, now.tiles, sizeof(uint16_t) * EDGE) == 0 &&
-           memcmp(before.tiles + EDGE + ENTRIES, now.tiles + EDGE + ENTRIES, sizeof(uint16_t) * EDGE) == 0 &&
-           memcmp(before.bytes, now.bytes, EDGE) == 0 &&
-           memcmp(before.bytes + EDGE + map.room, now.bytes + EDGE + map.room, reach - EDGE - map.room) == 0 &&
+    const struct map *m = &maps[owner];
+    size_t from = EDGE + 1 + owner * OWN, end = EDGE + m->start + m->quota;
+    memcpy(before.list + from + 1, now.list + from + 1, (OWN - 1) * sizeof(size_t));
+    memcpy(before.tiles + EDGE + owner * ENTRIES, now.tiles + EDGE + owner * ENTRIES, ENTRIES * sizeof(uint16_t));
+    return memcmp(before.list, now.list, sizeof now.list) == 0 && memcmp(before.tiles, now.tiles, sizeof now.tiles) == 0 &&
+           memcmp(before.bytes, now.bytes, EDGE + m->start) == 0 && memcmp(before.bytes + end, now.bytes + end, reach - end) == 0 &&
            memcmp(before.out, now.out, reach) == 0;
 }
 
-/* The place of a tile in the plain map, or its count. */
-static size_t place_of(uint16_t tile)
+/* The place of a tile in a plain map, or its count. */
+static size_t place_of(const struct map *m, uint16_t tile)
 {
     size_t k;
-    for (k = 0; k < map.count && map.tile[k] != tile; k++)
+    for (k = 0; k < m->count && m->tile[k] != tile; k++)
         ;
     return k;
 }
 
-static size_t wanted_put(uint16_t tile, size_t length)
+static size_t wanted_put(const struct map *m, uint16_t tile, size_t length)
 {
-    if (place_of(tile) < map.count)
+    if (place_of(m, tile) < m->count)
         return 31;
-    if (map.count == ENTRIES)
+    if (m->count == ENTRIES)
         return 33;
-    return map.sum + length > map.room ? 30 : 0;
+    return m->sum + length > m->quota ? 30 : 0;
 }
 
-static int put_right(uint16_t tile, size_t length)
+static int put_right(size_t owner, uint16_t tile, size_t length)
 {
-    size_t want = wanted_put(tile, length), k = map.count;
-    if (!is(put(tile, length), want, 0))
+    struct map *m = &maps[owner];
+    size_t want = wanted_put(m, tile, length), k = m->count;
+    if (!is(put(owner, tile, length), want, 0))
         return 0;
     if (want)
         return untouched();
-    map.tile[k] = tile;
-    map.length[k] = length;
-    memcpy(map.bytes[k], block, length);
-    map.count++;
-    map.sum += length;
-    return guarded() && list[0] == map.room && list[1] == map.count;
+    m->tile[k] = tile;
+    m->length[k] = length;
+    memcpy(m->bytes[k], block, length);
+    m->count++;
+    m->sum += length;
+    return guarded(owner) && list[2 + owner * OWN] == m->count;
 }
 
-static int length_right(uint16_t tile)
+static int length_right(size_t owner, uint16_t tile)
 {
-    size_t k = place_of(tile);
-    return (k < map.count ? is(length_of(tile), 0, map.length[k]) : is(length_of(tile), 32, 0)) && untouched();
+    const struct map *m = &maps[owner];
+    size_t k = place_of(m, tile);
+    return (k < m->count ? is(length_of(owner, tile), 0, m->length[k]) : is(length_of(owner, tile), 32, 0)) && untouched();
 }
 
-static int fetch_right(uint16_t tile, size_t length)
+static int fetch_right(size_t owner, uint16_t tile, size_t length)
 {
-    size_t k = place_of(tile);
-    if (k == map.count)
-        return is(fetch(tile, length), 32, 0) && untouched();
-    if (length != map.length[k])
-        return is(fetch(tile, length), 6, 0) && untouched();
-    if (!is(fetch(tile, length), 0, 0) || memcmp(out, map.bytes[k], length) != 0)
+    const struct map *m = &maps[owner];
+    size_t k = place_of(m, tile);
+    if (k == m->count)
+        return is(fetch(owner, tile, length), 32, 0) && untouched();
+    if (length != m->length[k])
+        return is(fetch(owner, tile, length), 6, 0) && untouched();
+    if (!is(fetch(owner, tile, length), 0, 0) || memcmp(out, m->bytes[k], length) != 0)
         return 0;
     memcpy(before.out + EDGE, out, length);
     return untouched();
 }
 
-static int drop_right(uint16_t tile)
+static int drop_right(size_t owner, uint16_t tile)
 {
-    size_t k = place_of(tile);
-    if (k == map.count)
-        return is(drop(tile), 32, 0) && untouched();
-    map.sum -= map.length[k];
-    map.count--;
-    map.tile[k] = map.tile[map.count];
-    map.length[k] = map.length[map.count];
-    memcpy(map.bytes[k], map.bytes[map.count], map.length[k]);
-    return is(drop(tile), 0, 0) && guarded() && list[0] == map.room && list[1] == map.count;
+    struct map *m = &maps[owner];
+    size_t k = place_of(m, tile);
+    if (k == m->count)
+        return is(drop(owner, tile), 32, 0) && untouched();
+    m->sum -= m->length[k];
+    m->count--;
+    m->tile[k] = m->tile[m->count];
+    m->length[k] = m->length[m->count];
+    memcpy(m->bytes[k], m->bytes[m->count], m->length[k]);
+    return is(drop(owner, tile), 0, 0) && guarded(owner) && list[2 + owner * OWN] == m->count;
 }
 
-/* Every block comes back. */
+static int reset_right(void)
+{
+    maps[0].count = maps[0].sum = maps[1].count = maps[1].sum = 0;
+    before.list[EDGE + 2] = before.list[EDGE + 36] = 0;
+    return is(reset(), 0, 0) && untouched();
+}
+
+/* Every block of both comes back. */
 static int all_right(void)
 {
-    size_t k;
-    for (k = 0; k < map.count; k++) {
-        keep();
-        if (!length_right(map.tile[k]) || !fetch_right(map.tile[k], map.length[k]))
-            return 0;
-    }
+    size_t owner, k;
+    for (owner = 0; owner < 2; owner++)
+        for (k = 0; k < maps[owner].count; k++) {
+            keep();
+            if (!length_right(owner, maps[owner].tile[k]) || !fetch_right(owner, maps[owner].tile[k], maps[owner].length[k]))
+                return 0;
+        }
     return 1;
 }
 
+/* A call by one of the two, or, seldom, a reset or a call by nobody. Both have the same tile numbers. */
 static int one_call(unsigned spread, unsigned longest)
 {
+    size_t owner = draw(2);
     uint16_t tile = (uint16_t)(65535u - draw(spread) * 31u);
-    size_t length = draw(longest + 1), k = place_of(tile);
-    unsigned which = draw(16);
+    size_t length = draw(longest + 1), k = place_of(&maps[owner], tile);
+    unsigned which = draw(1600);
     scramble(block, length < 8 ? length : 8);
     memset(block + (length < 8 ? length : 8), (int)draw(256), length < 8 ? 0 : length - 8);
     keep();
-    if (which < 7)
-        return put_right(tile, draw(20) ? length : 0);
-    if (which < 9)
-        return length_right(tile);
-    if (which < 13)
-        return fetch_right(tile, k < map.count && draw(4) ? map.length[k] : length);
-    return drop_right(tile);
+    if (which == 0)
+        return reset_right();
+    if (which < 5)
+        return is(which % 2 ? drop(2 + draw(9), tile) : put((size_t)0 - 1 - draw(9), tile, length), 34, 0) && untouched();
+    if (which < 700)
+        return put_right(owner, tile, draw(20) ? length : 0);
+    if (which < 900)
+        return length_right(owner, tile);
+    if (which < 1300)
+        return fetch_right(owner, tile, k < maps[owner].count && draw(4) ? maps[owner].length[k] : length);
+    return drop_right(owner, tile);
 }
 
-static void begin(size_t room)
+static void begin(size_t length, size_t quota0, size_t quota1)
 {
-    map.count = map.sum = 0;
-    map.room = room;
+    room = length;
+    maps[0].count = maps[0].sum = maps[1].count = maps[1].sum = 0;
+    maps[0].quota = maps[1].start = quota0;
+    maps[0].start = 0;
+    maps[1].quota = quota1;
     reach = room + 512 < sizeof now.bytes ? room + 512 : sizeof now.bytes;
     tell(room);
 }
 
-static int set_up_right(size_t room)
+static int set_up_right(size_t length, size_t quota0, size_t quota1)
 {
-    begin(room);
+    begin(length, quota0, quota1);
     keep();
-    if (!is(setup(), 0, 0) || list[0] != room || list[1] != 0)
-        return 0;
-    before.list[EDGE] = room;
-    before.list[EDGE + 1] = 0;
-    return untouched();
+    before.list[EDGE] = length;
+    before.list[EDGE + 1] = quota0;
+    before.list[EDGE + 35] = quota1;
+    before.list[EDGE + 2] = before.list[EDGE + 36] = 0;
+    return is(setup(quota0, quota1), 0, 0) && untouched();
 }
 
 /* Sequences from an empty store over arrays of any contents. */
@@ -232,244 +247,345 @@ static void sequences(void)
     static const unsigned rooms[] = {0, 1, 7, 64, 200, 700, 2000, 4000};
     unsigned done = 0, round;
     for (round = 0; done < CALLS; round++) {
-        unsigned room = rooms[round % 8], spread = 1 + draw(130), longest = draw(round % 3 ? 60 : 400), k;
+        unsigned length = rooms[round % 8], quota0 = draw(length + 1), quota1 = round % 5 ? length - quota0 : draw(length - quota0 + 1);
+        unsigned spread = 1 + draw(130), longest = draw(round % 3 ? 60 : 400), k;
         scramble(now.list, sizeof now.list);
         scramble(now.tiles, sizeof now.tiles);
-        scramble(now.bytes, EDGE + room + EDGE);
+        scramble(now.bytes, EDGE + length + EDGE);
         scramble(now.out, 500);
-        check(set_up_right(room), "a set-up over any contents");
+        check(set_up_right(length, quota0, quota1), "a set-up over any contents");
         for (k = 0; k < 500; k++, done++)
             check(one_call(spread, longest), "a call of a sequence");
         check(all_right(), "every block of a sequence");
     }
 }
 
-/* A list that no call made: the store answers as the map that it says. */
+/* Lists that no call made: the store answers as the maps that they say. */
 static void given_lists(void)
 {
     unsigned round, k;
     for (round = 0; round < 60; round++) {
-        size_t room = draw(3000), at = 0;
-        scramble(now.bytes, EDGE + room + EDGE);
-        begin(room);
-        list[0] = room;
-        list[1] = draw(ENTRIES + 1);
-        for (k = 0; k < list[1]; k++) {
-            size_t length = draw(60);
-            if (length > room - at)
-                length = 0;
-            tiles[k] = (uint16_t)(k * 977u + round);
-            list[2 + k] = length;
-            map.tile[k] = tiles[k];
-            map.length[k] = length;
-            memcpy(map.bytes[k], bytes + at, length);
-            at += length;
+        size_t length = draw(3000), quota0 = draw((unsigned)length + 1), owner;
+        scramble(now.bytes, EDGE + length + EDGE);
+        begin(length, quota0, length - quota0);
+        list[0] = length;
+        for (owner = 0; owner < 2; owner++) {
+            struct map *m = &maps[owner];
+            size_t *own = list + 1 + owner * OWN, at = 0;
+            own[0] = m->quota;
+            own[1] = draw(ENTRIES + 1);
+            for (k = 0; k < own[1]; k++) {
+                own[2 + k] = draw(60) < m->quota - at ? draw(60) : 0;
+                if (own[2 + k] > m->quota - at)
+                    own[2 + k] = 0;
+                tiles[owner * ENTRIES + k] = m->tile[k] = (uint16_t)(k * 977u + round);
+                m->length[k] = own[2 + k];
+                memcpy(m->bytes[k], bytes + m->start + at, own[2 + k]);
+                at += own[2 + k];
+            }
+            m->count = own[1];
+            m->sum = at;
         }
-        map.count = list[1];
-        map.sum = at;
-        check(all_right(), "a list that was written by hand");
+        check(all_right(), "lists that were written by hand");
         for (k = 0; k < 100; k++)
-            check(one_call(100, 60), "a call on a list that was written by hand");
-        check(all_right(), "what a list written by hand holds afterwards");
+            check(one_call(100, 60), "a call on lists that were written by hand");
+        check(all_right(), "what lists written by hand hold afterwards");
     }
 }
 
-/* Each call is refused with 39, whatever its tile, and nothing changes. */
-static void damaged(const char *what)
+/* Each call of this owner is refused with this, whatever its tile, and nothing changes. */
+static void refused(const char *what, size_t owner, size_t answer)
 {
     keep();
-    check(is(put(9, 1), 39, 0) && untouched(), what);
-    check(is(put(1, 0), 39, 0) && untouched(), what);
-    check(is(length_of(1), 39, 0) && untouched(), what);
-    check(is(fetch(1, 3), 39, 0) && untouched(), what);
-    check(is(fetch(9, 4), 39, 0) && untouched(), what);
-    check(is(drop(1), 39, 0) && untouched(), what);
-    check(is(drop(9), 39, 0) && untouched(), what);
+    check(is(put(owner, 9, 1), answer, 0) && untouched(), what);
+    check(is(put(owner, 1, 0), answer, 0) && untouched(), what);
+    check(is(length_of(owner, 1), answer, 0) && untouched(), what);
+    check(is(fetch(owner, 1, 3), answer, 0) && untouched(), what);
+    check(is(fetch(owner, 9, 4), answer, 0) && untouched(), what);
+    check(is(drop(owner, 1), answer, 0) && untouched(), what);
+    check(is(drop(owner, 9), answer, 0) && untouched(), what);
 }
 
-/* Three blocks of 3, 0 and 5 bytes in 10. */
+/* What no set-up leaves: both owners are refused, and so is a reset; nobody has 34 all the same. */
+static void both_refused(const char *what)
+{
+    refused(what, 0, 39);
+    refused(what, 1, 39);
+    check(is(reset(), 39, 0) && untouched(), what);
+    refused(what, 2, 34);
+}
+
+/* A damaged list of one owner doesn't stop the other, who finds its own blocks. */
+static void one_refused(const char *what, size_t owner)
+{
+    const struct map *other = &maps[1 - owner];
+    size_t k;
+    refused(what, owner, 39);
+    for (k = 0; k < other->count; k++) {
+        keep();
+        check(length_right(1 - owner, other->tile[k]) && fetch_right(1 - owner, other->tile[k], other->length[k]), what);
+    }
+    keep();
+    check(put_right(1 - owner, 77, 1), what);
+    keep();
+    check(drop_right(1 - owner, 77), what);
+    refused(what, 2, 34);
+}
+
+/* Three blocks of 3, 0 and 5 bytes for each, of 10. */
 static void three(void)
 {
-    check(set_up_right(10), "three blocks: set-up");
+    size_t owner;
+    check(set_up_right(23, 10, 11), "three blocks: set-up");
+    for (owner = 0; owner < 2; owner++) {
+        scramble(block, 5);
+        keep();
+        check(put_right(owner, 1, 3) && put_right(owner, 2, 0), "three blocks");
+        keep();
+        check(put_right(owner, 65535, 5), "three blocks: the third");
+    }
+}
+
+static void damaged_lists(size_t owner)
+{
+    size_t *own = list + 1 + owner * OWN, k;
+    uint16_t *mine = tiles + owner * ENTRIES;
+    three();
+    for (k = 0; k < LARGE_NUMBERS; k++) {
+        own[1] = large_numbers[k];
+        one_refused("more held than 32", owner);
+        own[1] = 3;
+        own[2] = large_numbers[k];
+        one_refused("a block that leaves the quota", owner);
+        own[3] = (size_t)0 - large_numbers[k];
+        one_refused("lengths whose sum wraps", owner);
+        own[2] = 3;
+        own[3] = 0;
+    }
+    own[1] = 33;
+    one_refused("33 held", owner);
+    own[1] = 3;
+    own[4] = maps[owner].quota - 3 + 1;
+    one_refused("one byte over", owner);
+    own[4] = 5;
+    for (k = 0; k < 3; k++) {
+        uint16_t old = mine[k];
+        mine[k] = mine[(k + 1) % 3];
+        one_refused("a tile twice", owner);
+        mine[k] = old;
+    }
     keep();
-    check(put_right(1, 3) && put_right(2, 0), "three blocks");
+    check(all_right(), "whole again");
+
+    /* Any two of 32 tiles. */
+    own[1] = ENTRIES;
+    for (k = 0; k < ENTRIES; k++) {
+        own[2 + k] = 0;
+        mine[k] = (uint16_t)(k * 2000u + 3);
+    }
+    for (k = 0; k < ENTRIES; k++) {
+        uint16_t old = mine[k];
+        size_t twin = (k * 13 + 5) % ENTRIES, held = (k < twin ? twin : k) + 1;
+        if (twin == k)
+            continue;
+        mine[k] = mine[twin];
+        own[1] = held;
+        refused("a tile twice among many", owner, 39);
+        own[1] = held - 1;
+        keep();
+        check(is(length_of(owner, 4), 32, 0) && untouched(), "the second one not held");
+        own[1] = ENTRIES;
+        mine[k] = old;
+    }
+
+    /* A reset mends it. */
+    own[1] = (size_t)0 - 1;
+    refused("beyond repair", owner, 39);
     keep();
-    check(put_right(65535, 5), "three blocks: the third");
+    check(reset_right(), "a reset of a damaged list");
+    keep();
+    check(put_right(owner, 5, 5), "mended");
+    keep();
+    check(put_right(1 - owner, 5, 0), "mended, and the other's too");
 }
 
 static void damages(void)
 {
-    static const size_t wrong[] = {0, 1, 2, 63, 65, 66, 67, (size_t)1 << 32};
-    size_t k, held;
+    static const size_t wrong[] = {0, 1, 2, 32, 34, 35, 63, 65, 66, 68, 70, (size_t)1 << 32};
+    size_t k;
+    damaged_lists(0);
+    damaged_lists(1);
     three();
     for (k = 0; k < LARGE_NUMBERS; k++) {
-        list[1] = large_numbers[k];
-        damaged("more held than 64");
-        list[1] = 3;
         list[0] = large_numbers[k];
-        damaged("another room");
-        list[0] = 10;
-        list[2] = large_numbers[k];
-        damaged("a block that leaves the buffer");
-        list[3] = (size_t)0 - large_numbers[k];
-        damaged("lengths whose sum wraps");
-        list[2] = 3;
-        list[3] = 0;
+        both_refused("another room");
+        list[0] = 23;
+        list[1] = large_numbers[k];
+        both_refused("a quota of owner 0 over the room");
+        list[35] = (size_t)0 - large_numbers[k];
+        both_refused("quotas whose sum wraps");
+        list[1] = 10;
+        list[35] = large_numbers[k];
+        both_refused("a quota of owner 1 over the room");
+        list[35] = 11;
     }
-    list[1] = 65;
-    damaged("65 held");
-    list[1] = 3;
-    list[4] = 8;
-    damaged("one byte over");
-    list[4] = 5;
-    list[0] = 9;
-    damaged("a room one less");
-    list[0] = 11;
-    damaged("a room one more");
-    list[0] = 10;
-    for (k = 0; k < 3; k++) {
-        uint16_t old = tiles[k];
-        tiles[k] = tiles[(k + 1) % 3];
-        damaged("a tile twice");
-        tiles[k] = old;
-    }
+    list[1] = 13;
+    both_refused("quotas one byte over");
+    list[1] = 10;
+    list[0] = 22;
+    both_refused("a room one less");
+    list[0] = 24;
+    both_refused("a room one more");
+    list[0] = 23;
     for (k = 0; k < sizeof wrong / sizeof wrong[0]; k++) {
         told.tiles = wrong[k];
-        damaged("tiles of another length");
-        told.tiles = ENTRIES;
-        told.list = wrong[k] == 66 ? 64 : wrong[k];
-        damaged("a list of another length");
+        both_refused("tiles of another length");
+        told.tiles = TILES;
+        told.list = wrong[k];
+        both_refused("a list of another length");
         told.list = LIST;
     }
-    for (k = 0; k < 20; k++)
-        if (k != 10) {
+    for (k = 0; k < 30; k++)
+        if (k != 23) {
             told.bytes = k;
-            damaged("a buffer of another length");
+            both_refused("a buffer of another length");
         }
-    told.bytes = 10;
     told.list = told.tiles = 0;
-    damaged("no list and no tiles");
-    tell(10);
+    both_refused("no list and no tiles");
+    tell(23);
     keep();
     check(all_right(), "whole again");
+    for (k = 0; k < LARGE_NUMBERS; k++)
+        refused("nobody", large_numbers[k], 34);
 
     /* A forged room, over a buffer that is as long. */
     reach = sizeof now.bytes;
     list[0] = told.bytes = ROOM + 1;
-    damaged("a room over 65,536");
-
-    /* Any two of 64 tiles. */
-    begin(ROOM);
-    list[0] = ROOM;
-    list[1] = ENTRIES;
-    for (k = 0; k < ENTRIES; k++) {
-        list[2 + k] = 1;
-        tiles[k] = (uint16_t)(k * 1000u + 3);
-    }
-    for (k = 0; k < ENTRIES; k++) {
-        uint16_t old = tiles[k];
-        tiles[k] = tiles[(k * 29 + 1) % ENTRIES];
-        held = k < (k * 29 + 1) % ENTRIES ? (k * 29 + 1) % ENTRIES + 1 : k + 1;
-        list[1] = held;
-        damaged("a tile twice among many");
-        list[1] = held - 1;
-        keep();
-        check(is(length_of(4), 32, 0) && untouched(), "the second one not held");
-        list[1] = ENTRIES;
-        tiles[k] = old;
-    }
-    keep();
-    check(is(length_of(3), 0, 1) && untouched(), "64 tiles");
+    both_refused("a room over 65,536");
 }
 
 static void set_ups(void)
 {
+    size_t k;
     reach = sizeof now.bytes;
     keep();
     tell(ROOM + 1);
-    check(is(setup(), 37, 0) && untouched(), "a buffer of 65,537");
+    check(is(setup(0, 0), 37, 0) && untouched(), "a buffer of 65,537");
     told.list = told.tiles = 0;
-    check(is(setup(), 37, 0) && untouched(), "37 before 39");
+    check(is(setup(ROOM + 1, ROOM + 1), 37, 0) && untouched(), "37 before 35 and 39");
     told.bytes = (size_t)0 - 1;
-    check(is(setup(), 37, 0) && untouched(), "the longest buffer");
+    check(is(setup(0, 0), 37, 0) && untouched(), "the longest buffer");
+    tell(ROOM);
+    check(is(setup(ROOM, 1), 35, 0) && untouched(), "quotas one byte over");
+    check(is(setup(1, ROOM), 35, 0) && untouched(), "quotas one byte over, the other way");
+    for (k = 0; k < LARGE_NUMBERS; k++) {
+        size_t quota = large_numbers[k] > ROOM ? large_numbers[k] : large_numbers[k] + ROOM;
+        check(is(setup(quota, 0), 35, 0) && untouched(), "a first quota over the room");
+        check(is(setup(0, quota), 35, 0) && untouched(), "a second quota over the room");
+        check(is(setup((size_t)0 - 1 - k, 1 + k), 35, 0) && untouched(), "quotas whose sum wraps");
+    }
+    told.list = told.tiles = 0;
+    check(is(setup(ROOM, 1), 35, 0) && untouched(), "35 before 39");
     tell(ROOM);
     told.list = LIST - 1;
-    check(is(setup(), 39, 0) && untouched(), "a list of 65");
+    check(is(setup(1, 1), 39, 0) && untouched(), "a list of 68");
     told.list = LIST + 1;
-    check(is(setup(), 39, 0) && untouched(), "a list of 67");
-    told.list = 0;
-    check(is(crewelmarsh_store_setup(NULL, 0, tiles, ENTRIES, bytes, ROOM), 39, 0) && untouched(), "no list");
+    check(is(setup(1, 1), 39, 0) && untouched(), "a list of 70");
+    check(is(crewelmarsh_store_setup(1, 1, NULL, 0, tiles, TILES, bytes, ROOM), 39, 0) && untouched(), "no list");
     tell(ROOM);
-    told.tiles = ENTRIES - 1;
-    check(is(setup(), 39, 0) && untouched(), "tiles of 63");
-    told.tiles = ENTRIES + 1;
-    check(is(setup(), 39, 0) && untouched(), "tiles of 65");
-    check(set_up_right(ROOM), "a buffer of 65,536");
-    check(set_up_right(0), "a buffer of none");
-    keep();
-    check(is(crewelmarsh_store_put(list, LIST, tiles, ENTRIES, NULL, 0, 5, NULL, 0), 0, 0), "an empty block in no buffer");
-    check(is(crewelmarsh_store_length(list, LIST, tiles, ENTRIES, NULL, 0, 5), 0, 0), "its length");
-    check(is(crewelmarsh_store_fetch(list, LIST, tiles, ENTRIES, NULL, 0, 5, NULL, 0), 0, 0), "itself");
-    check(is(crewelmarsh_store_put(list, LIST, tiles, ENTRIES, NULL, 0, 6, block, 1), 30, 0), "a byte in no buffer");
-    check(is(crewelmarsh_store_drop(list, LIST, tiles, ENTRIES, NULL, 0, 5), 0, 0), "an empty block dropped");
+    told.tiles = TILES - 1;
+    check(is(setup(1, 1), 39, 0) && untouched(), "tiles of 63");
+    told.tiles = TILES + 1;
+    check(is(setup(1, 1), 39, 0) && untouched(), "tiles of 65");
+    check(set_up_right(ROOM, ROOM, 0), "the whole buffer for owner 0");
+    check(set_up_right(ROOM, 0, ROOM), "the whole buffer for owner 1");
+    check(set_up_right(ROOM, 5, 6), "most of it for neither");
+    check(set_up_right(0, 0, 0), "a buffer of none");
+    check(is(crewelmarsh_store_put(1, list, LIST, tiles, TILES, NULL, 0, 5, NULL, 0), 0, 0), "an empty block in no buffer");
+    check(is(crewelmarsh_store_length(1, list, LIST, tiles, TILES, NULL, 0, 5), 0, 0), "its length");
+    check(is(crewelmarsh_store_length(0, list, LIST, tiles, TILES, NULL, 0, 5), 32, 0), "not the other's");
+    check(is(crewelmarsh_store_fetch(1, list, LIST, tiles, TILES, NULL, 0, 5, NULL, 0), 0, 0), "itself");
+    check(is(crewelmarsh_store_put(1, list, LIST, tiles, TILES, NULL, 0, 6, block, 1), 30, 0), "a byte in no buffer");
+    check(is(crewelmarsh_store_reset(list, LIST, tiles, TILES, NULL, 0), 0, 0), "a reset of no buffer");
+    check(is(crewelmarsh_store_drop(1, list, LIST, tiles, TILES, NULL, 0, 5), 32, 0), "an empty block gone");
 }
 
-/* The last byte, the last entry, and which refusal comes first. */
-static void limits(void)
+/* The last byte of a quota, the last entry, and which refusal comes first; the other owner has room all the while. */
+static void limits(size_t owner)
 {
     unsigned k;
-    check(set_up_right(64), "limits: set-up");
-    scramble(block, 66);
+    check(set_up_right(200, owner ? 130 : 64, owner ? 64 : 130), "limits: set-up");
+    scramble(block, 200);
+    keep();
+    check(put_right(1 - owner, 0, 100), "100 bytes of the other's");
     for (k = 0; k < 3; k++) {
         keep();
-        check(put_right((uint16_t)k, 21), "21 bytes of 64");
+        check(put_right(owner, (uint16_t)k, 21), "21 bytes of 64");
     }
     keep();
-    check(put_right(3, 2), "one byte over the room");
+    check(put_right(owner, 3, 2), "one byte over the quota");
     keep();
-    check(put_right(3, 1), "the last byte");
+    check(put_right(owner, 3, 1), "the last byte");
     keep();
-    check(put_right(4, 1), "no byte left");
+    check(put_right(owner, 4, 1), "no byte left");
     keep();
-    check(put_right(4, 0), "no byte needed");
+    check(put_right(owner, 4, 0), "no byte needed");
     keep();
-    check(drop_right(1), "room again");
+    check(put_right(1 - owner, 1, 30), "the other's last bytes");
     keep();
-    check(put_right(9, 22), "more than was dropped");
+    check(drop_right(owner, 1), "room again");
     keep();
-    check(put_right(9, 21), "as much as was dropped");
+    check(put_right(owner, 9, 22), "more than was dropped");
+    keep();
+    check(put_right(owner, 9, 21), "as much as was dropped");
     check(all_right(), "all of them");
 
-    check(set_up_right(100), "entries: set-up");
+    check(set_up_right(200, 100, 100), "entries: set-up");
     for (k = 0; k < ENTRIES; k++) {
         keep();
-        check(put_right((uint16_t)(k * 1024u), 1), "64 blocks");
+        check(put_right(owner, (uint16_t)(k * 2048u), 1), "32 blocks");
     }
     keep();
-    check(is(put(1, 0), 33, 0) && untouched(), "the 65th");
-    check(is(put(1, 200), 33, 0) && untouched(), "33 before 30");
-    check(is(put(0, 0), 31, 0) && untouched(), "31 before 33");
-    check(is(put(64512, 200), 31, 0) && untouched(), "31 before 33 and 30");
-    check(is(fetch(1, 3), 32, 0) && untouched(), "32 before 6");
-    check(is(fetch(0, 2), 6, 0) && untouched(), "a destination too long");
-    check(is(fetch(0, 0), 6, 0) && untouched(), "a destination too short");
+    check(is(put(owner, 1, 0), 33, 0) && untouched(), "the 33rd");
+    check(is(put(owner, 1, 200), 33, 0) && untouched(), "33 before 30");
+    check(is(put(owner, 0, 0), 31, 0) && untouched(), "31 before 33");
+    check(is(put(owner, 63488, 200), 31, 0) && untouched(), "31 before 33 and 30");
+    check(is(fetch(owner, 1, 3), 32, 0) && untouched(), "32 before 6");
+    check(is(fetch(owner, 0, 2), 6, 0) && untouched(), "a destination too long");
+    check(is(fetch(owner, 0, 0), 6, 0) && untouched(), "a destination too short");
+    check(is(length_of(1 - owner, 0), 32, 0) && untouched(), "not the other's");
+    for (k = 0; k < ENTRIES; k++) {
+        keep();
+        check(put_right(1 - owner, (uint16_t)(k * 2048u), 2), "32 of the other's");
+    }
     check(all_right(), "all 64");
+    keep();
+    check(reset_right(), "a reset of 64");
+    check(is(length_of(owner, 0), 32, 0) && is(length_of(1 - owner, 0), 32, 0), "none left");
+}
 
-    check(set_up_right(ROOM), "one block: set-up");
+static void whole_room(size_t owner)
+{
+    check(set_up_right(ROOM, owner ? 0 : ROOM, owner ? ROOM : 0), "one block: set-up");
     scramble(block, ROOM);
     keep();
-    check(is(put(7, ROOM + 1), 30, 0) && untouched(), "a block longer than the room");
-    check(is(put(7, ROOM), 0, 0) && memcmp(bytes, block, ROOM) == 0, "a block as long as the room");
-    check(is(length_of(7), 0, ROOM), "its length");
+    check(is(put(owner, 7, ROOM + 1), 30, 0) && untouched(), "a block longer than the room");
+    check(is(put(1 - owner, 7, 1), 30, 0) && untouched(), "a byte of no quota");
+    check(is(put(owner, 7, ROOM), 0, 0) && memcmp(bytes, block, ROOM) == 0, "a block as long as the room");
+    check(is(length_of(owner, 7), 0, ROOM), "its length");
     memset(out, 0, ROOM);
-    check(is(fetch(7, ROOM), 0, 0) && memcmp(out, block, ROOM) == 0, "itself, back");
-    check(is(put(8, 0), 0, 0) && is(drop(7), 0, 0) && is(length_of(8), 0, 0) && is(length_of(7), 32, 0), "an empty block behind it");
+    check(is(fetch(owner, 7, ROOM), 0, 0) && memcmp(out, block, ROOM) == 0, "itself, back");
+    check(is(put(owner, 8, 0), 0, 0) && is(drop(owner, 7), 0, 0) && is(length_of(owner, 8), 0, 0) && is(length_of(owner, 7), 32, 0),
+          "an empty block behind it");
 }
 
 void test_store(void)
 {
     set_ups();
-    limits();
+    limits(0);
+    limits(1);
+    whole_room(0);
+    whole_room(1);
     sequences();
     given_lists();
     damages();

@@ -30,7 +30,7 @@ VERSION := $(MAJOR).$(call said,MINOR).$(call said,PATCH)
 ENTRIES := $(shell sed -n 's/^.define \(crewelmarsh_[a-z_]*\) CREWELMARSH_NAME.*/\1_abi$(MAJOR)/p' include/crewelmarsh.h)
 
 # How many checks the boundary's test makes.
-BOUNDARY_CHECKS := 129734
+BOUNDARY_CHECKS := 132691
 BOUNDARY_PARTS := boundary check eigen svd row solve qr marks sizes numbers block covariance store header header_cpp
 BOUNDARY_OBJECTS := $(BOUNDARY_PARTS:%=build/tests/%.o)
 

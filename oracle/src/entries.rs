@@ -22,7 +22,7 @@ unsafe fn lent_mut<'a>(start: *mut f64, len: usize) -> &'a mut [f64] {
 }
 
 #[unsafe(no_mangle)]
-pub unsafe extern "C" fn crewelmarsh_symmetric_eigen_abi3(
+pub unsafe extern "C" fn crewelmarsh_symmetric_eigen_abi4(
     n: usize,
     limit: usize,
     edition: usize,
@@ -39,7 +39,7 @@ pub unsafe extern "C" fn crewelmarsh_symmetric_eigen_abi3(
 }
 
 #[unsafe(no_mangle)]
-pub unsafe extern "C" fn crewelmarsh_svd_abi3(
+pub unsafe extern "C" fn crewelmarsh_svd_abi4(
     m: usize,
     n: usize,
     want_u: usize,
@@ -65,7 +65,7 @@ pub struct Extent {
 }
 
 #[unsafe(no_mangle)]
-pub extern "C" fn crewelmarsh_vt_row_extent_abi3(
+pub extern "C" fn crewelmarsh_vt_row_extent_abi4(
     m: usize,
     n: usize,
     has_u: usize,
@@ -78,7 +78,7 @@ pub extern "C" fn crewelmarsh_vt_row_extent_abi3(
 }
 
 #[unsafe(no_mangle)]
-pub unsafe extern "C" fn crewelmarsh_solve_abi3(
+pub unsafe extern "C" fn crewelmarsh_solve_abi4(
     m: usize,
     n: usize,
     has_u: usize,
@@ -98,7 +98,7 @@ pub unsafe extern "C" fn crewelmarsh_solve_abi3(
 }
 
 #[unsafe(no_mangle)]
-pub unsafe extern "C" fn crewelmarsh_pseudo_inverse_abi3(
+pub unsafe extern "C" fn crewelmarsh_pseudo_inverse_abi4(
     m: usize,
     n: usize,
     has_u: usize,
@@ -116,7 +116,7 @@ pub unsafe extern "C" fn crewelmarsh_pseudo_inverse_abi3(
 }
 
 #[unsafe(no_mangle)]
-pub unsafe extern "C" fn crewelmarsh_qr_q_abi3(
+pub unsafe extern "C" fn crewelmarsh_qr_q_abi4(
     m: usize,
     k: usize,
     matrix: *const f64,
@@ -150,7 +150,7 @@ pub struct Shape {
 }
 
 #[unsafe(no_mangle)]
-pub unsafe extern "C" fn crewelmarsh_block_check_abi3(block: *const u8, block_len: usize) -> Shape {
+pub unsafe extern "C" fn crewelmarsh_block_check_abi4(block: *const u8, block_len: usize) -> Shape {
     match block::read(unsafe { bytes(block, block_len) }) {
         Ok(b) => Shape { answer: 0, rows: b.rows, columns: b.columns, parts: b.parts.len() },
         Err(answer) => Shape { answer, rows: 0, columns: 0, parts: 0 },
@@ -165,7 +165,7 @@ pub struct Found {
 }
 
 #[unsafe(no_mangle)]
-pub unsafe extern "C" fn crewelmarsh_block_find_abi3(
+pub unsafe extern "C" fn crewelmarsh_block_find_abi4(
     own: *const u8,
     own_len: usize,
     main_block: *const u8,
@@ -177,7 +177,7 @@ pub unsafe extern "C" fn crewelmarsh_block_find_abi3(
 }
 
 #[unsafe(no_mangle)]
-pub unsafe extern "C" fn crewelmarsh_block_copy_abi3(
+pub unsafe extern "C" fn crewelmarsh_block_copy_abi4(
     own: *const u8,
     own_len: usize,
     main_block: *const u8,
@@ -196,7 +196,7 @@ pub unsafe extern "C" fn crewelmarsh_block_copy_abi3(
 }
 
 #[unsafe(no_mangle)]
-pub extern "C" fn crewelmarsh_block_length_abi3(
+pub extern "C" fn crewelmarsh_block_length_abi4(
     rows: usize,
     columns: usize,
     parts: usize,
@@ -208,7 +208,7 @@ pub extern "C" fn crewelmarsh_block_length_abi3(
 }
 
 #[unsafe(no_mangle)]
-pub unsafe extern "C" fn crewelmarsh_block_write_abi3(
+pub unsafe extern "C" fn crewelmarsh_block_write_abi4(
     rows: usize,
     columns: usize,
     parts: usize,
@@ -263,7 +263,7 @@ fn covariance(n: usize, count: usize, samples: &[i16], matrix: &mut [f64]) -> An
 }
 
 #[unsafe(no_mangle)]
-pub unsafe extern "C" fn crewelmarsh_covariance_abi3(
+pub unsafe extern "C" fn crewelmarsh_covariance_abi4(
     n: usize,
     count: usize,
     samples: *const i16,
@@ -288,7 +288,9 @@ unsafe fn of_mut<'a, T>(start: *mut T, len: usize) -> &'a mut [T] {
 }
 
 #[unsafe(no_mangle)]
-pub unsafe extern "C" fn crewelmarsh_store_setup_abi3(
+pub unsafe extern "C" fn crewelmarsh_store_setup_abi4(
+    quota0: usize,
+    quota1: usize,
     list: *mut usize,
     list_len: usize,
     tiles: *const u16,
@@ -296,11 +298,12 @@ pub unsafe extern "C" fn crewelmarsh_store_setup_abi3(
     bytes: *const u8,
     bytes_len: usize,
 ) -> Answer {
-    unsafe { refused(store::set_up(of_mut(list, list_len), of(tiles, tiles_len), of(bytes, bytes_len))) }
+    unsafe { refused(store::set_up(quota0, quota1, of_mut(list, list_len), of(tiles, tiles_len), of(bytes, bytes_len))) }
 }
 
 #[unsafe(no_mangle)]
-pub unsafe extern "C" fn crewelmarsh_store_put_abi3(
+pub unsafe extern "C" fn crewelmarsh_store_put_abi4(
+    owner: usize,
     list: *mut usize,
     list_len: usize,
     tiles: *mut u16,
@@ -311,11 +314,12 @@ pub unsafe extern "C" fn crewelmarsh_store_put_abi3(
     block: *const u8,
     block_len: usize,
 ) -> Answer {
-    unsafe { refused(store::put(of_mut(list, list_len), of_mut(tiles, tiles_len), of_mut(bytes, bytes_len), tile, of(block, block_len))) }
+    unsafe { refused(store::put(owner, of_mut(list, list_len), of_mut(tiles, tiles_len), of_mut(bytes, bytes_len), tile, of(block, block_len))) }
 }
 
 #[unsafe(no_mangle)]
-pub unsafe extern "C" fn crewelmarsh_store_length_abi3(
+pub unsafe extern "C" fn crewelmarsh_store_length_abi4(
+    owner: usize,
     list: *const usize,
     list_len: usize,
     tiles: *const u16,
@@ -324,12 +328,13 @@ pub unsafe extern "C" fn crewelmarsh_store_length_abi3(
     bytes_len: usize,
     tile: u16,
 ) -> Answer {
-    let (answer, count) = unsafe { store::length(of(list, list_len), of(tiles, tiles_len), of(bytes, bytes_len), tile) };
+    let (answer, count) = unsafe { store::length(owner, of(list, list_len), of(tiles, tiles_len), of(bytes, bytes_len), tile) };
     Answer { answer, place: 0, index: 0, count }
 }
 
 #[unsafe(no_mangle)]
-pub unsafe extern "C" fn crewelmarsh_store_fetch_abi3(
+pub unsafe extern "C" fn crewelmarsh_store_fetch_abi4(
+    owner: usize,
     list: *const usize,
     list_len: usize,
     tiles: *const u16,
@@ -340,11 +345,12 @@ pub unsafe extern "C" fn crewelmarsh_store_fetch_abi3(
     out: *mut u8,
     out_len: usize,
 ) -> Answer {
-    unsafe { refused(store::fetch(of(list, list_len), of(tiles, tiles_len), of(bytes, bytes_len), tile, of_mut(out, out_len))) }
+    unsafe { refused(store::fetch(owner, of(list, list_len), of(tiles, tiles_len), of(bytes, bytes_len), tile, of_mut(out, out_len))) }
 }
 
 #[unsafe(no_mangle)]
-pub unsafe extern "C" fn crewelmarsh_store_drop_abi3(
+pub unsafe extern "C" fn crewelmarsh_store_drop_abi4(
+    owner: usize,
     list: *mut usize,
     list_len: usize,
     tiles: *mut u16,
@@ -353,5 +359,17 @@ pub unsafe extern "C" fn crewelmarsh_store_drop_abi3(
     bytes_len: usize,
     tile: u16,
 ) -> Answer {
-    unsafe { refused(store::drop(of_mut(list, list_len), of_mut(tiles, tiles_len), of_mut(bytes, bytes_len), tile)) }
+    unsafe { refused(store::drop(owner, of_mut(list, list_len), of_mut(tiles, tiles_len), of_mut(bytes, bytes_len), tile)) }
+}
+
+#[unsafe(no_mangle)]
+pub unsafe extern "C" fn crewelmarsh_store_reset_abi4(
+    list: *mut usize,
+    list_len: usize,
+    tiles: *const u16,
+    tiles_len: usize,
+    bytes: *const u8,
+    bytes_len: usize,
+) -> Answer {
+    unsafe { refused(store::reset(of_mut(list, list_len), of(tiles, tiles_len), of(bytes, bytes_len))) }
 }

@@ -1,80 +1,122 @@
-//! The store by 01's words: a map that is built anew from the lent arrays at each call, and laid out again behind it. Nothing of it is document 000's.
+//! The store of two owners by 01's words: each owner's map is built anew from the lent arrays at each call, and laid out again behind it. Nothing of it
+//! is document 000's.
 
-pub const ENTRIES: usize = 64;
+pub const ENTRIES: usize = 32;
+const OWN: usize = ENTRIES + 2;
+const LIST: usize = 1 + 2 * OWN;
 const MOST: usize = 65536;
 
-/// What a store holds, in the order in which the blocks stand.
+/// What an owner holds, in the order in which the blocks stand.
 type Held = Vec<(u16, Vec<u8>)>;
 
-/// The arrays read as a map; `None` is refusal 39.
-fn read(list: &[usize], tiles: &[u16], bytes: &[u8]) -> Option<Held> {
-    if list.len() != ENTRIES + 2 || tiles.len() != ENTRIES || list[0] > MOST || bytes.len() != list[0] || list[1] > ENTRIES {
-        return None;
+/// Room, quotas and lengths are such as a set-up leaves.
+fn laid(list: &[usize], tiles: &[u16], bytes: &[u8]) -> bool {
+    let fits = |list: &[usize]| list[1].checked_add(list[1 + OWN]).is_some_and(|both| both <= list[0]);
+    list.len() == LIST && tiles.len() == 2 * ENTRIES && list[0] <= MOST && bytes.len() == list[0] && fits(list)
+}
+
+/// An owner's arrays read as a map; else 34 or 39.
+fn read(owner: usize, list: &[usize], tiles: &[u16], bytes: &[u8]) -> Result<Held, usize> {
+    if owner > 1 {
+        return Err(34);
     }
-    let mut rest = bytes;
+    if !laid(list, tiles, bytes) {
+        return Err(39);
+    }
+    let own = &list[1 + owner * OWN..][..OWN];
+    let start = if owner == 0 { 0 } else { list[1] };
+    let mut rest = &bytes[start..start + own[0]];
+    if own[1] > ENTRIES {
+        return Err(39);
+    }
     let mut held = Held::new();
-    for (&tile, &length) in tiles.iter().zip(&list[2..]).take(list[1]) {
-        let (block, behind) = rest.split_at_checked(length)?;
+    for (&tile, &length) in tiles[owner * ENTRIES..].iter().zip(&own[2..]).take(own[1]) {
+        let (block, behind) = rest.split_at_checked(length).ok_or(39usize)?;
         if held.iter().any(|&(other, _)| other == tile) {
-            return None;
+            return Err(39);
         }
         held.push((tile, block.to_vec()));
         rest = behind;
     }
-    Some(held)
+    Ok(held)
 }
 
-/// The map into the arrays: what it doesn't fill stays as it was.
-fn lay(held: &Held, list: &mut [usize], tiles: &mut [u16], bytes: &mut [u8]) {
-    list[1] = held.len();
-    let mut at = 0;
+/// An owner's map into its arrays: what it doesn't fill stays as it was.
+fn lay(owner: usize, held: &Held, list: &mut [usize], tiles: &mut [u16], bytes: &mut [u8]) {
+    let mut at = if owner == 0 { 0 } else { list[1] };
+    let own = &mut list[1 + owner * OWN..][..OWN];
+    own[1] = held.len();
     for (k, (tile, block)) in held.iter().enumerate() {
-        tiles[k] = *tile;
-        list[2 + k] = block.len();
+        tiles[owner * ENTRIES + k] = *tile;
+        own[2 + k] = block.len();
         bytes[at..at + block.len()].copy_from_slice(block);
         at += block.len();
     }
 }
 
-pub fn set_up(list: &mut [usize], tiles: &[u16], bytes: &[u8]) -> usize {
+pub fn set_up(quota0: usize, quota1: usize, list: &mut [usize], tiles: &[u16], bytes: &[u8]) -> usize {
     if bytes.len() > MOST {
         return 37;
     }
-    if list.len() != ENTRIES + 2 || tiles.len() != ENTRIES {
+    if quota0.checked_add(quota1).is_none_or(|both| both > bytes.len()) {
+        return 35;
+    }
+    if list.len() != LIST || tiles.len() != 2 * ENTRIES {
         return 39;
     }
     list[0] = bytes.len();
-    list[1] = 0;
+    for (owner, quota) in [quota0, quota1].into_iter().enumerate() {
+        list[1 + owner * OWN] = quota;
+        list[2 + owner * OWN] = 0;
+    }
     0
 }
 
-pub fn put(list: &mut [usize], tiles: &mut [u16], bytes: &mut [u8], tile: u16, block: &[u8]) -> usize {
-    let Some(mut held) = read(list, tiles, bytes) else { return 39 };
+pub fn reset(list: &mut [usize], tiles: &[u16], bytes: &[u8]) -> usize {
+    if !laid(list, tiles, bytes) {
+        return 39;
+    }
+    for owner in 0..2 {
+        list[2 + owner * OWN] = 0;
+    }
+    0
+}
+
+pub fn put(owner: usize, list: &mut [usize], tiles: &mut [u16], bytes: &mut [u8], tile: u16, block: &[u8]) -> usize {
+    let mut held = match read(owner, list, tiles, bytes) {
+        Ok(held) => held,
+        Err(refusal) => return refusal,
+    };
     if held.iter().any(|&(other, _)| other == tile) {
         return 31;
     }
     if held.len() == ENTRIES {
         return 33;
     }
-    if held.iter().map(|(_, b)| b.len()).sum::<usize>() + block.len() > bytes.len() {
+    if held.iter().map(|(_, b)| b.len()).sum::<usize>() + block.len() > list[1 + owner * OWN] {
         return 30;
     }
     held.push((tile, block.to_vec()));
-    lay(&held, list, tiles, bytes);
+    lay(owner, &held, list, tiles, bytes);
     0
 }
 
 /// The answer and the length.
-pub fn length(list: &[usize], tiles: &[u16], bytes: &[u8], tile: u16) -> (usize, usize) {
-    let Some(held) = read(list, tiles, bytes) else { return (39, 0) };
-    match held.iter().find(|&&(other, _)| other == tile) {
-        Some((_, block)) => (0, block.len()),
-        None => (32, 0),
+pub fn length(owner: usize, list: &[usize], tiles: &[u16], bytes: &[u8], tile: u16) -> (usize, usize) {
+    match read(owner, list, tiles, bytes) {
+        Ok(held) => match held.iter().find(|&&(other, _)| other == tile) {
+            Some((_, block)) => (0, block.len()),
+            None => (32, 0),
+        },
+        Err(refusal) => (refusal, 0),
     }
 }
 
-pub fn fetch(list: &[usize], tiles: &[u16], bytes: &[u8], tile: u16, out: &mut [u8]) -> usize {
-    let Some(held) = read(list, tiles, bytes) else { return 39 };
+pub fn fetch(owner: usize, list: &[usize], tiles: &[u16], bytes: &[u8], tile: u16, out: &mut [u8]) -> usize {
+    let held = match read(owner, list, tiles, bytes) {
+        Ok(held) => held,
+        Err(refusal) => return refusal,
+    };
     let Some((_, block)) = held.iter().find(|&&(other, _)| other == tile) else { return 32 };
     if out.len() != block.len() {
         return 6;
@@ -83,10 +125,13 @@ pub fn fetch(list: &[usize], tiles: &[u16], bytes: &[u8], tile: u16, out: &mut [
     0
 }
 
-pub fn drop(list: &mut [usize], tiles: &mut [u16], bytes: &mut [u8], tile: u16) -> usize {
-    let Some(mut held) = read(list, tiles, bytes) else { return 39 };
+pub fn drop(owner: usize, list: &mut [usize], tiles: &mut [u16], bytes: &mut [u8], tile: u16) -> usize {
+    let mut held = match read(owner, list, tiles, bytes) {
+        Ok(held) => held,
+        Err(refusal) => return refusal,
+    };
     let Some(k) = held.iter().position(|&(other, _)| other == tile) else { return 32 };
     held.remove(k);
-    lay(&held, list, tiles, bytes);
+    lay(owner, &held, list, tiles, bytes);
     0
 }

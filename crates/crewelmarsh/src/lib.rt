@@ -11,14 +11,14 @@ ghost use Rattle.blockread.specs.Held.{shapeOf};
 ghost use Rattle.blockread.specs.Lookup.{found, copied};
 ghost use Rattle.blockwrite.specs.Writing.{given, doubles, lengthOf, written};
 ghost use Rattle.covariance.specs.Covariance.{covariance};
-ghost use Rattle.storemap.specs.Store.{setUp, putOf, lengthHeld, fetchOf, dropOf};
+ghost use Rattle.ownermap.specs.Owners.{setUp2, reset, putFor, lengthFor, fetchFor, dropFor};
 use answers::Answer;
 use blockread::Found;
 use blockread::Shape;
 use row::Extent;
 
 #[no_mangle]
-pub extern "C" fn crewelmarsh_symmetric_eigen_abi3(
+pub extern "C" fn crewelmarsh_symmetric_eigen_abi4(
     n: usize,
     limit: usize,
     edition: usize,
@@ -32,7 +32,7 @@ pub extern "C" fn crewelmarsh_symmetric_eigen_abi3(
 }
 
 #[no_mangle]
-pub extern "C" fn crewelmarsh_svd_abi3(
+pub extern "C" fn crewelmarsh_svd_abi4(
     m: usize,
     n: usize,
     want_u: usize,
@@ -48,7 +48,7 @@ pub extern "C" fn crewelmarsh_svd_abi3(
 }
 
 #[no_mangle]
-pub extern "C" fn crewelmarsh_vt_row_extent_abi3(
+pub extern "C" fn crewelmarsh_vt_row_extent_abi4(
     m: usize,
     n: usize,
     has_u: usize,
@@ -62,7 +62,7 @@ pub extern "C" fn crewelmarsh_vt_row_extent_abi3(
 }
 
 #[no_mangle]
-pub extern "C" fn crewelmarsh_solve_abi3(
+pub extern "C" fn crewelmarsh_solve_abi4(
     m: usize,
     n: usize,
     has_u: usize,
@@ -87,7 +87,7 @@ pub extern "C" fn crewelmarsh_solve_abi3(
 }
 
 #[no_mangle]
-pub extern "C" fn crewelmarsh_pseudo_inverse_abi3(
+pub extern "C" fn crewelmarsh_pseudo_inverse_abi4(
     m: usize,
     n: usize,
     has_u: usize,
@@ -102,7 +102,7 @@ pub extern "C" fn crewelmarsh_pseudo_inverse_abi3(
 }
 
 #[no_mangle]
-pub extern "C" fn crewelmarsh_qr_q_abi3(
+pub extern "C" fn crewelmarsh_qr_q_abi4(
     m: usize,
     k: usize,
     matrix: &[f64],
@@ -116,21 +116,21 @@ pub extern "C" fn crewelmarsh_qr_q_abi3(
 // ---- transform blocks
 
 #[no_mangle]
-pub extern "C" fn crewelmarsh_block_check_abi3(block: &[u8]) -> Shape
+pub extern "C" fn crewelmarsh_block_check_abi4(block: &[u8]) -> Shape
     ensures { λ r. ⌜ r ≡ shapeOf (now (block .entry)) ⌝ }
 {
     blockread::shape_of(block)
 }
 
 #[no_mangle]
-pub extern "C" fn crewelmarsh_block_find_abi3(own: &[u8], main_block: &[u8], kind: usize) -> Found
+pub extern "C" fn crewelmarsh_block_find_abi4(own: &[u8], main_block: &[u8], kind: usize) -> Found
     ensures { λ r. ⌜ r ≡ found (now (own .entry)) (now («main_block» .entry)) kind ⌝ }
 {
     blockread::locate(own, main_block, kind)
 }
 
 #[no_mangle]
-pub extern "C" fn crewelmarsh_block_copy_abi3<'a>(
+pub extern "C" fn crewelmarsh_block_copy_abi4<'a>(
     own: &'a [u8],
     main_block: &'a [u8],
     kind: usize,
@@ -142,7 +142,7 @@ pub extern "C" fn crewelmarsh_block_copy_abi3<'a>(
 }
 
 #[no_mangle]
-pub extern "C" fn crewelmarsh_block_length_abi3(
+pub extern "C" fn crewelmarsh_block_length_abi4(
     rows: usize,
     columns: usize,
     parts: usize,
@@ -156,7 +156,7 @@ pub extern "C" fn crewelmarsh_block_length_abi3(
 }
 
 #[no_mangle]
-pub extern "C" fn crewelmarsh_block_write_abi3(
+pub extern "C" fn crewelmarsh_block_write_abi4(
     rows: usize,
     columns: usize,
     parts: usize,
@@ -185,7 +185,7 @@ pub extern "C" fn crewelmarsh_block_write_abi3(
 }
 
 #[no_mangle]
-pub extern "C" fn crewelmarsh_covariance_abi3(
+pub extern "C" fn crewelmarsh_covariance_abi4(
     n: usize,
     count: usize,
     samples: &[i16],
@@ -196,65 +196,82 @@ pub extern "C" fn crewelmarsh_covariance_abi3(
     covariance::covariance(n, count, samples, matrix)
 }
 
-// ---- the store, with 64 entries
+// ---- the store of two owners
 
 #[no_mangle]
-pub extern "C" fn crewelmarsh_store_setup_abi3(
+pub extern "C" fn crewelmarsh_store_setup_abi4(
+    quota0: usize,
+    quota1: usize,
     list: &mut [usize],
     tiles: &[u16],
     bytes: &[u8],
 ) -> Answer
-    ensures { λ r. ⌜ (r, now (list .exit)) ≡ setUp 64 (now (list .entry)) (now (tiles .entry)) (now (bytes .entry)) ⌝ }
+    ensures { λ r. ⌜ (r, now (list .exit)) ≡ setUp2 (now (list .entry)) (now (tiles .entry)) (now (bytes .entry)) quota0 quota1 ⌝ }
 {
-    store::set_up(64, list, tiles, bytes)
+    owners::set_up(quota0, quota1, list, tiles, bytes)
 }
 
 #[no_mangle]
-pub extern "C" fn crewelmarsh_store_put_abi3(
+pub extern "C" fn crewelmarsh_store_reset_abi4(
+    list: &mut [usize],
+    tiles: &[u16],
+    bytes: &[u8],
+) -> Answer
+    ensures { λ r. ⌜ (r, now (list .exit)) ≡ reset (now (list .entry)) (now (tiles .entry)) (now (bytes .entry)) ⌝ }
+{
+    owners::reset(list, tiles, bytes)
+}
+
+#[no_mangle]
+pub extern "C" fn crewelmarsh_store_put_abi4(
+    owner: usize,
     list: &mut [usize],
     tiles: &mut [u16],
     bytes: &mut [u8],
     tile: u16,
     block: &[u8],
 ) -> Answer
-    ensures { λ r. ⌜ (r, now (list .exit), now (tiles .exit), now (bytes .exit)) ≡ putOf 64 (now (list .entry)) (now (tiles .entry)) (now (bytes .entry)) tile (now (block .entry)) ⌝ }
+    ensures { λ r. ⌜ (r, now (list .exit), now (tiles .exit), now (bytes .exit)) ≡ putFor owner (now (list .entry)) (now (tiles .entry)) (now (bytes .entry)) tile (now (block .entry)) ⌝ }
 {
-    store::put(64, list, tiles, bytes, tile, block)
+    owners::put(owner, list, tiles, bytes, tile, block)
 }
 
 #[no_mangle]
-pub extern "C" fn crewelmarsh_store_length_abi3(
+pub extern "C" fn crewelmarsh_store_length_abi4(
+    owner: usize,
     list: &[usize],
     tiles: &[u16],
     bytes: &[u8],
     tile: u16,
 ) -> Answer
-    ensures { λ r. ⌜ r ≡ lengthHeld 64 (now (list .entry)) (now (tiles .entry)) (now (bytes .entry)) tile ⌝ }
+    ensures { λ r. ⌜ r ≡ lengthFor owner (now (list .entry)) (now (tiles .entry)) (now (bytes .entry)) tile ⌝ }
 {
-    store::length_of(64, list, tiles, bytes, tile)
+    owners::length_of(owner, list, tiles, bytes, tile)
 }
 
 #[no_mangle]
-pub extern "C" fn crewelmarsh_store_fetch_abi3(
+pub extern "C" fn crewelmarsh_store_fetch_abi4(
+    owner: usize,
     list: &[usize],
     tiles: &[u16],
     bytes: &[u8],
     tile: u16,
     out: &mut [u8],
 ) -> Answer
-    ensures { λ r. ⌜ (r, now (out .exit)) ≡ fetchOf 64 (now (list .entry)) (now (tiles .entry)) (now (bytes .entry)) tile (now (out .entry)) ⌝ }
+    ensures { λ r. ⌜ (r, now (out .exit)) ≡ fetchFor owner (now (list .entry)) (now (tiles .entry)) (now (bytes .entry)) tile (now (out .entry)) ⌝ }
 {
-    store::fetch(64, list, tiles, bytes, tile, out)
+    owners::fetch(owner, list, tiles, bytes, tile, out)
 }
 
 #[no_mangle]
-pub extern "C" fn crewelmarsh_store_drop_abi3(
+pub extern "C" fn crewelmarsh_store_drop_abi4(
+    owner: usize,
     list: &mut [usize],
     tiles: &mut [u16],
     bytes: &mut [u8],
     tile: u16,
 ) -> Answer
-    ensures { λ r. ⌜ (r, now (list .exit), now (tiles .exit), now (bytes .exit)) ≡ dropOf 64 (now (list .entry)) (now (tiles .entry)) (now (bytes .entry)) tile ⌝ }
+    ensures { λ r. ⌜ (r, now (list .exit), now (tiles .exit), now (bytes .exit)) ≡ dropFor owner (now (list .entry)) (now (tiles .entry)) (now (bytes .entry)) tile ⌝ }
 {
-    store::drop_tile(64, list, tiles, bytes, tile)
+    owners::drop_tile(owner, list, tiles, bytes, tile)
 }

@@ -1,7 +1,6 @@
 -- A store of 3 entries and 10 bytes: what each call of a sequence gives, and what is refused with 39, computed.
 use mathlib.Core.Path.{_≡_, refl}
 use mathlib.Core.List.{List, [], _∷_}
-use Prim.Native.Nat.{ℕ}
 use Rattle.answers.specs.Answers.{done, refused}
 use Rattle.storemap.specs.Store.{place, sum, distinct, sound, setUp, putOf, lengthHeld, fetchOf, dropOf}
 use Rattle.storemap.specs.Calls.{Put, Length, Fetch, Drop, Event, Do, Reset, Seen, run, storeStep}

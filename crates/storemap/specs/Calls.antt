@@ -1,5 +1,5 @@
 -- Sequences of calls: on a store, and on a plain map from tiles to bytes, which is what a store is held to. Definitions only.
-use mathlib.Core.Bool.{Bool, cond, not}
+use mathlib.Core.Bool.{cond, not}
 use mathlib.Core.Option.{Option, none, some}
 use mathlib.Core.List.{List, [], _∷_, _++_}
 use Prim.Native.Nat.{ℕ, _+_}

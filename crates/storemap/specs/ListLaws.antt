@@ -2,14 +2,14 @@
 use mathlib.Core.Path.{_≡_, refl, sym, ap, _∙_}
 use mathlib.Core.Bool.{Bool, true, false, cond, true≢false}
 use mathlib.Core.List.{List, [], _∷_, _++_, append-assoc}
-use Prim.Native.Nat.{ℕ, zero, suc, _+_, _-_, _≤_, _<_}
+use Prim.Native.Nat.{ℕ, zero, suc, _+_, _-_, _≤_}
 use native.Mathlib.Nat.{zero-add, suc-add}
 use native.Mathlib.Omega.{arith}
-use borrow.Author.Tests.{ltb-false, eqb-true, eqb-false, ne-eqb, eq-eqb, le-ltb}
-use lib.Dec.{ltb, leb, eqb}
-use lib.ListN.{length, take, drop, getD, length-append, length-drop, take-append-drop}
-use lib.Seq.{length-take-le, paste, take-paste, length-paste, take-take, take-at, drop-at, getD-at, getD-take}
-use Rattle.storemap.specs.Store.{place, sum, distinct, closed}
+use borrow.Author.Tests.{ltb-false, eqb-false, ne-eqb, le-ltb}
+use lib.Dec.{ltb, eqb}
+use lib.ListN.{length, take, drop, length-append, length-drop, take-append-drop}
+use lib.Seq.{length-take-le, paste, take-paste, length-paste, take-take, take-at, drop-at}
+use Rattle.storemap.specs.Store.{place, distinct, closed}
 
 module _ {A : Type 0} where
   pub drop-take : (i j : ℕ) (l : List A) → drop i (take (i + j) l) ≡ take j (drop i l)

@@ -5,7 +5,6 @@ use mathlib.Core.Bool.{Bool, true, false}
 use mathlib.Core.Option.{none, some}
 use mathlib.Core.List.{List, [], _∷_, _++_, append-assoc}
 use Prim.Native.Nat.{ℕ, suc, _+_}
-use native.Mathlib.Omega.{arith}
 use borrow.Author.Tests.{eqb-true}
 use lib.Dec.{eqb}
 use lib.ListN.{length, length-append}
@@ -51,11 +50,6 @@ pub flat-length : (m : Map) → length (flat m) ≡ sum (sizes m)
 unfolding sizes flat sum
 flat-length [] = refl
 flat-length (e ∷ m) = length-append (e .1) (flat m) ∙ ap (λ (n : ℕ). length (e .1) + n) (flat-length m)
-
-pub sum-append : (l m : List ℕ) → sum (l ++ m) ≡ sum l + sum m
-unfolding sum
-sum-append [] m = omega arith
-sum-append (x ∷ l) m = omega (arith, sum-append l m)
 
 -- ---- a tile is held, and the map is what stands before it, it, and what stands behind it; or it isn't
 

@@ -1,23 +1,23 @@
 -- The sequence theorem: every sequence of calls from an empty store answers, and fetches, as a plain map from tiles to bytes does. Laws only.
 use mathlib.Core.Path.{_≡_, refl, sym, ap, _∙_, subst}
-use mathlib.Core.Logic.{_⊎_, inl, inr, ⊎-elim}
-use mathlib.Core.Bool.{Bool, true, false, cond, not}
-use mathlib.Core.Option.{Option, none, some}
-use mathlib.Core.List.{List, [], _∷_, _++_, append-assoc, append-nil}
-use Prim.Native.Nat.{ℕ, zero, suc, _+_, _-_, _≤_, _<_}
+use mathlib.Core.Logic.{⊎-elim}
+use mathlib.Core.Bool.{Bool, true, false}
+use mathlib.Core.List.{List, [], _∷_, _++_, append-nil}
+use Prim.Native.Nat.{ℕ, suc, _+_, _-_, _≤_, _<_}
 use native.Mathlib.Numerals.{add-one}
 use native.Mathlib.Omega.{arith}
-use borrow.Author.Tests.{leb-true, leb-false, ltb-false, eqb-true, eqb-false, eq-eqb, le-ltb, lt-ltb}
+use borrow.Author.Tests.{leb-false, ltb-false, eqb-true, eq-eqb, le-ltb, lt-ltb}
 use lib.Dec.{ltb, leb, eqb}
 use lib.ListN.{length, take, drop, getD, set, length-append, length-set, length-drop}
 use lib.Seq.{length-take-le, take-length, paste, take-paste, length-paste, take-suc-set, getD-at, getD-take, take-add, take-at, drop-at, take-take}
 use Rattle.answers.specs.declared.Answer.{Answer}
 use Rattle.answers.specs.Answers.{done, refused}
-use Rattle.storemap.specs.Store.{place, sum, distinct, listed, sound, closed, heldOf, roomOf, startOf, setUp, putOf, lengthHeld, fetchOf, dropOf}
+use Rattle.storemap.specs.Store.{place, sum, distinct, listed, sound, closed, heldOf, roomOf, setUp, putOf, lengthHeld, fetchOf, dropOf}
 use Rattle.storemap.specs.SoundLaws.{Facts, facts, sounds, listed-lists, listed-tiled}
-use Rattle.storemap.specs.Calls.{Call, Put, Length, Fetch, Drop, Event, Do, Reset, Seen, run, Map, lookup, without, sizes, mapCall, mapStep, Arrays, left, storeCall, storeReset, storeStep, shown, mapOf}
-use Rattle.storemap.specs.ListLaws.{drop-take, closed-cut, closed-length, part-of, front-of, Fresh, Distinct, fresh-of, distinct-of, distinct-is, distinct-append, distinct-cut}
-use Rattle.storemap.specs.MapLaws.{keys, flat, keys-append, sizes-append, flat-append, keys-length, sizes-length, flat-length, sum-append, Split, Missing, split}
+use Rattle.storemap.specs.StartLaws.{sum-append}
+use Rattle.storemap.specs.Calls.{Call, Put, Length, Fetch, Drop, Event, Do, Reset, Seen, run, Map, sizes, mapCall, mapStep, Arrays, storeCall, storeReset, storeStep, shown, mapOf}
+use Rattle.storemap.specs.ListLaws.{drop-take, closed-cut, closed-length, part-of, front-of, Fresh, fresh-of, distinct-of, distinct-is, distinct-append, distinct-cut}
+use Rattle.storemap.specs.MapLaws.{keys, flat, keys-append, sizes-append, flat-append, keys-length, sizes-length, flat-length, Split, Missing, split}
 
 -- ---- the list: room, number held, and the lengths
 
@@ -36,7 +36,7 @@ listed-less room h k n x lens =
     rw (j, a, b, two-more k)
 
 -- any list of two numbers and more
-list-is : (list : List ℕ) (n : ℕ) → length list ≡ 2 + n → list ≡ roomOf list ∷ heldOf list ∷ drop 2 list
+pub list-is : (list : List ℕ) (n : ℕ) → length list ≡ 2 + n → list ≡ roomOf list ∷ heldOf list ∷ drop 2 list
 list-is [] n e = absurd (omega arith)
 list-is (x ∷ []) n e = absurd (omega arith)
 list-is (x ∷ y ∷ l) n e = refl

@@ -1,5 +1,4 @@
-// A stored run of the store: calls on one with 3 entries and 10 bytes, a line for each with its answer and its count; what comes back, and the
-// buffer; then lists that no call leaves.
+// A stored run of the store: calls of two owners with 6 and 4 of 10 bytes, a line for each with its answer and its count; what comes back, and the buffer.
 use answers::Answer;
 
 fn show(a: Answer) {
@@ -9,82 +8,53 @@ fn show(a: Answer) {
     io::write_all(1, b"\n");
 }
 
-fn line(s: &[u8]) {
-    io::write_all(1, s);
+fn put(owner: usize, list: &mut [usize], tiles: &mut [u16], bytes: &mut [u8], block: &[u8]) {
+    show(owners::put(owner, list, tiles, bytes, 7, block));
+}
+
+fn length(owner: usize, list: &[usize], tiles: &[u16], bytes: &[u8]) {
+    show(owners::length_of(owner, list, tiles, bytes, 7));
+}
+
+// A tile of owner 1, who has less room than its first block needs, and the same tile number of owner 0; nobody's.
+fn fill(list: &mut [usize], tiles: &mut [u16], bytes: &mut [u8]) {
+    put(1, list, tiles, bytes, b"vwxyz");
+    put(1, list, tiles, bytes, b"xy");
+    put(0, list, tiles, bytes, b"abcde");
+    put(2, list, tiles, bytes, b"");
+}
+
+// Another tile of owner 0; then its first one gone, and the second one in its place.
+fn turn(list: &mut [usize], tiles: &mut [u16], bytes: &mut [u8]) {
+    show(owners::put(0, list, tiles, bytes, 8, b"f"));
+    show(owners::drop_tile(0, list, tiles, bytes, 7));
+}
+
+fn look(list: &[usize], tiles: &[u16], bytes: &[u8]) {
+    length(0, list, tiles, bytes);
+    length(1, list, tiles, bytes);
+    io::write_all(1, bytes);
     io::write_all(1, b"\n");
 }
 
-fn put(list: &mut [usize], tiles: &mut [u16], bytes: &mut [u8], tile: u16, block: &[u8]) {
-    show(store::put(3, list, tiles, bytes, tile, block));
-}
-
-fn remove(list: &mut [usize], tiles: &mut [u16], bytes: &mut [u8], tile: u16) {
-    show(store::drop_tile(3, list, tiles, bytes, tile));
-}
-
-fn length(list: &[usize], tiles: &[u16], bytes: &[u8], tile: u16) {
-    show(store::length_of(3, list, tiles, bytes, tile));
-}
-
-fn fetch(list: &[usize], tiles: &[u16], bytes: &[u8], tile: u16, out: &mut [u8]) {
-    show(store::fetch(3, list, tiles, bytes, tile, out));
-    line(out);
-}
-
-// 4 bytes; the same tile; 3 bytes; 4 where 3 are left.
-fn begin(list: &mut [usize], tiles: &mut [u16], bytes: &mut [u8]) {
-    put(list, tiles, bytes, 7, b"abcd");
-    put(list, tiles, bytes, 7, b"x");
-    put(list, tiles, bytes, 65535, b"efg");
-    put(list, tiles, bytes, 9, b"hijk");
-}
-
-// 3 bytes, which fill it; a fourth block; the second one gone, and room again.
-fn go_on(list: &mut [usize], tiles: &mut [u16], bytes: &mut [u8]) {
-    put(list, tiles, bytes, 9, b"hij");
-    put(list, tiles, bytes, 10, b"");
-    remove(list, tiles, bytes, 65535);
-    put(list, tiles, bytes, 10, b"");
-}
-
-fn look(list: &[usize], tiles: &[u16], bytes: &[u8], out: &mut [u8]) {
-    length(list, tiles, bytes, 65535);
-    length(list, tiles, bytes, 9);
-    fetch(list, tiles, bytes, 7, out);
-    fetch(list, tiles, bytes, 9, out);
-}
-
-// A list as calls leave it; then more held than entries, another room, parts that leave the buffer, and lengths whose sum would wrap.
-fn damaged(tiles: &[u16], bytes: &[u8]) {
-    let mut list = [0usize; 5];
-    list[0] = 10;
-    list[1] = 2;
-    list[2] = 4;
-    length(&list, tiles, bytes, 7);
-    list[1] = 4;
-    length(&list, tiles, bytes, 7);
-    list[1] = 2;
-    list[0] = 9;
-    length(&list, tiles, bytes, 7);
-    list[0] = 10;
-    list[3] = 7;
-    length(&list, tiles, bytes, 7);
-    list[3] = 18446744073709551615;
-    length(&list, tiles, bytes, 7);
+fn fetch(list: &[usize], tiles: &[u16], bytes: &[u8], out: &mut [u8]) {
+    show(owners::fetch(0, list, tiles, bytes, 8, out));
+    show(owners::fetch(1, list, tiles, bytes, 7, out));
+    io::write_all(1, out);
+    io::write_all(1, b"\n");
 }
 
 fn main() {
-    let mut list = [9usize; 5];
-    let mut tiles = [0u16; 3];
+    let mut list = [9usize; 69];
+    let mut tiles = [0u16; 64];
     let mut bytes = [b'.'; 10];
-    let mut out = [b'-'; 3];
-    show(store::set_up(3, &mut list, &tiles, &bytes));
-    begin(&mut list, &mut tiles, &mut bytes);
-    go_on(&mut list, &mut tiles, &mut bytes);
-    look(&list, &tiles, &bytes, &mut out);
-    line(&bytes);
-    damaged(&tiles, &bytes);
-    let twice = [7u16; 3];
-    length(&list, &twice, &bytes, 7);
-    show(store::set_up(4, &mut list, &tiles, &bytes));
+    let mut out = [b'-'; 2];
+    show(owners::set_up(6, 5, &mut list, &tiles, &bytes));
+    show(owners::set_up(6, 4, &mut list, &tiles, &bytes));
+    fill(&mut list, &mut tiles, &mut bytes);
+    look(&list, &tiles, &bytes);
+    turn(&mut list, &mut tiles, &mut bytes);
+    fetch(&list, &tiles, &bytes, &mut out);
+    show(owners::reset(&mut list, &tiles, &bytes));
+    look(&list, &tiles, &bytes);
 }

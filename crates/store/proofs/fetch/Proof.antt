@@ -9,7 +9,7 @@ use lib.Seq.{length-take-le}
 use borrow.Author.Tests.{not-true, not-false, lt-ltb, le-ltb, eq-eqb, ne-eqb}
 use Rattle.storemap.specs.Store.{heldOf, lengthAt, fetchOf}
 use Rattle.storemap.specs.SoundLaws.{Facts, facts}
-use Rattle.store.specs.LoopLaws.{start-below, start-ends}
+use Rattle.storemap.specs.StartLaws.{start-below, start-ends}
 use Rattle.store.proofs.fetch.Statement.{statement}
 use Rattle.store.proofs.fetch.Tie as tie
 

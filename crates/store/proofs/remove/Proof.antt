@@ -4,7 +4,7 @@ use native.Mathlib.Omega.{arith}
 use borrow.Author.Needs.{needs}
 use denote.Ref.{now}
 use Rattle.storemap.specs.Store.{heldOf}
-use Rattle.store.specs.LoopLaws.{start-below, start-ends}
+use Rattle.storemap.specs.StartLaws.{start-below, start-ends}
 use Rattle.store.proofs.remove.Statement.{statement}
 use Rattle.store.proofs.remove.Tie as tie
 

@@ -5,7 +5,7 @@ use Prim.Native.Nat.{ℕ, _+_, _-_, _≤_}
 use native.Mathlib.Omega.{arith}
 use denote.Ref.{now}
 use Rattle.storemap.specs.Store.{startOf, lengthAt}
-use Rattle.store.specs.LoopLaws.{start-none, start-more, start-below}
+use Rattle.storemap.specs.StartLaws.{start-none, start-more, start-below}
 use native.Mathlib.Nat.{le-antisymm}
 use Rattle.store.proofs.start_of.Statement.{statement}
 use Rattle.store.proofs.start_of.Tie as tie

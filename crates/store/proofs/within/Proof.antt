@@ -6,7 +6,7 @@ use native.Mathlib.Omega.{arith}
 use denote.Ref.{now}
 use borrow.Author.Tests.{le-leb, lt-leb}
 use Rattle.storemap.specs.Store.{roomOf, startOf, lengthAt}
-use Rattle.store.specs.LoopLaws.{start-none, start-more, start-below}
+use Rattle.storemap.specs.StartLaws.{start-none, start-more, start-below}
 use Rattle.store.proofs.within.Statement.{statement}
 use Rattle.store.proofs.within.Tie as tie
 

@@ -1,0 +1,2 @@
+-- Calls of both owners and what each gives, computed.
+pub mod Worked
