@@ -9,6 +9,9 @@
  *     crewelmarsh_pseudo_inverse    the pseudo-inverse by an svd
  *     crewelmarsh_qr_q              an orthonormal basis of the columns
  *
+ * crewelmarsh_eigen_start, _step and _finish are the first one in pieces, one QL pass at a time, for a program that has
+ * other work waiting (see ONE PASS AT A TIME below).
+ *
  * A sixth, crewelmarsh_vt_row_extent, says where in an svd's result a row of V^T stands; crewelmarsh_vt_row
  * makes a pointer of it.
  *
@@ -56,7 +59,7 @@
  *     0        result or answer full, work all +0.0
  *     1 to 6   all untouched
  *     7 to 10  result or answer, and work, all +0.0
- *     11, 12   all untouched
+ *     11 to 13 all untouched
  *
  * Matrix, decomposition and right side are only read.
  *
@@ -64,7 +67,7 @@
  *
  * The tests run in the order of the numbers, but those for 11 and 12 come behind 5 and before 6. So a 6 says that
  * sizes, limit, edition, flags and tolerance were good, and a 7 that the lengths were good too. 8, 9 and 10 come as
- * the run meets them.
+ * the run meets them. 13 is of a run in steps alone, and comes behind 6.
  *
  * EDITIONS
  *
@@ -124,13 +127,16 @@
  * patch.
  */
 #define CREWELMARSH_VERSION_MAJOR 4
-#define CREWELMARSH_VERSION_MINOR 0
+#define CREWELMARSH_VERSION_MINOR 1
 #define CREWELMARSH_VERSION_PATCH 0
 #define CREWELMARSH_VERSION /* as a string */ \
     CREWELMARSH_DOTTED(CREWELMARSH_VERSION_MAJOR, CREWELMARSH_VERSION_MINOR, CREWELMARSH_VERSION_PATCH)
 
 /* Each entry by its name in the library. */
 #define crewelmarsh_symmetric_eigen CREWELMARSH_NAME(symmetric_eigen)
+#define crewelmarsh_eigen_start CREWELMARSH_NAME(eigen_start)
+#define crewelmarsh_eigen_step CREWELMARSH_NAME(eigen_step)
+#define crewelmarsh_eigen_finish CREWELMARSH_NAME(eigen_finish)
 #define crewelmarsh_svd CREWELMARSH_NAME(svd)
 #define crewelmarsh_vt_row_extent CREWELMARSH_NAME(vt_row_extent)
 #define crewelmarsh_solve CREWELMARSH_NAME(solve)
@@ -256,6 +262,13 @@ enum {
        argument left out: the edition stands between the limit and the matrix. */
     CREWELMARSH_EDITION = 12,
 
+    /* A run that goes on is not in order: a number of its record is out of range for its size, tst1 is a NaN or
+       negative, the last e (in work) is not zero, or a d or an e from l on is not finite; or a finish came before
+       the last l was done (eigen_step, eigen_finish). Place 0.
+       The record or the arrays were changed between two calls, or belong to another run; or a step is left. Nothing
+       is lost: with the record and the arrays as they were, the run goes on. */
+    CREWELMARSH_RUN = 13,
+
     /* A block is cut short: fewer than 12 bytes, or than its entries need, or than its numbers need. Place 0, as
        for 21 to 24.
        The block was not read or sent whole. Fetch it again. */
@@ -347,6 +360,7 @@ static inline const char *crewelmarsh_text(size_t answer)
     case CREWELMARSH_INVALID: return "a number computed is not a number";
     case CREWELMARSH_TOLERANCE: return "the tolerance is a NaN or below 0";
     case CREWELMARSH_EDITION: return "the edition is not 1 or 2";
+    case CREWELMARSH_RUN: return "the run is not in order, or not at its end";
     case CREWELMARSH_BLOCK_SHORT: return "the block is cut short";
     case CREWELMARSH_BLOCK_OVER: return "bytes stand behind the block";
     case CREWELMARSH_BLOCK_COUNT: return "a dimension, a number of parts or a count of the block is bad";
@@ -515,6 +529,93 @@ struct crewelmarsh_answer crewelmarsh_symmetric_eigen(
     size_t limit,
     size_t edition,
     const double *matrix, size_t matrix_len,
+    double *work, size_t work_len,
+    double *result, size_t result_len);
+
+/*
+ * ONE PASS AT A TIME
+ *
+ * symmetric_eigen in pieces. A start makes a run, a step takes it one QL pass further, and a finish gives the
+ * result; with arrays that nobody touches in between it ends exactly as the one call does, with the same answer and
+ * the same bits (T29 of docs/PROMISES.md), after at most limit * n steps. Each call takes the run's record by value and gives back the
+ * next; the record holds no pointer and owns nothing, so that a run may be dropped at any time, or kept by a copy of the record
+ * and of both arrays. Several runs go on side by side, each with arrays of its own. A decode loop:
+ *
+ *     run = crewelmarsh_eigen_start(n, 60, edition, matrix, n * n, work, n, result, n + n * n);
+ *     while (crewelmarsh_eigen_goes_on(run)) {
+ *         run = crewelmarsh_eigen_step(run, work, n, result, n + n * n);
+ *         ... a tile that waits ...
+ *     }
+ *     run = crewelmarsh_eigen_finish(run, work, n, result, n + n * n);
+ *     if (run.answer.answer != CREWELMARSH_DONE) ...
+ *
+ * A step costs one pass: at n = 256 some 0.1 ms of a run of 30 ms (docs/BENCHMARKS.md). The start costs more, since the
+ * reduction is not divided: about a third of the run. The finish looks once at each number, and sorts: 0.5 ms.
+ *
+ * While a run goes on its stop is 0, and e, d and v stand in work, at the front of the result and behind it. What symmetric_eigen says of the arrays on 0
+ * holds from the finish on. When a call ends the run (stop is not 0 then), it also fills the arrays as symmetric_eigen does.
+ * A step or a finish of a run that has ended gives the record back as it was and looks at no array (T31).
+ */
+
+/* A run. Its fields are for reading: a program that changes one of a run still going gets 13, or another run's result. */
+struct crewelmarsh_eigen_run {
+    size_t n, limit, edition; /* as they were passed to the start */
+    size_t l;      /* the value that is worked on, 0 to n; n where the last is done */
+    size_t m;      /* where the matrix splits, l < m < n while passes are run at l */
+    double f;      /* what has been shifted so far */
+    double tst1;   /* the largest |d| + |e| so far */
+    size_t passes; /* passes run at this l, 0 to limit - 1 */
+    size_t count;  /* passes run in all */
+    size_t stop;   /* 0 while the run goes on */
+    size_t index;  /* 0 while the run goes on */
+    struct crewelmarsh_answer answer; /* what the last call gave; while the run goes on 0, 0, 0 and the count so far */
+};
+
+/* Whether steps are left: the run has not ended, its last value is not done, and the last call was not refused. */
+static inline int crewelmarsh_eigen_goes_on(struct crewelmarsh_eigen_run run)
+{
+    return run.stop == 0 && run.l < run.n && run.answer.answer == CREWELMARSH_DONE;
+}
+
+/*
+ * Checks as symmetric_eigen does, and reduces the matrix; the parameters are the same, and the matrix is not looked at again.
+ *
+ * Answers: 0 and the run goes on (for n = 0 it has ended), or 1, 2, 12, 6, 7, and 8 or 10 at mark 0, as in symmetric_eigen
+ */
+struct crewelmarsh_eigen_run crewelmarsh_eigen_start(
+    size_t n,
+    size_t limit,
+    size_t edition,
+    const double *matrix, size_t matrix_len,
+    double *work, size_t work_len,
+    double *result, size_t result_len);
+
+/*
+ * Values that have settled are skipped, and one pass is run; after the last value none is, and nothing changes.
+ *
+ * run        as the call before gave it
+ * work       n, and result n + n * n, as the call before left them
+ *
+ * Answers:
+ *   0  count: passes run so far
+ *   6  place 0 work, 1 result; 13. Both change the answer alone
+ *   8, 10  at mark 1, and 9: as in symmetric_eigen, and the run has ended
+ */
+struct crewelmarsh_eigen_run crewelmarsh_eigen_step(
+    struct crewelmarsh_eigen_run run,
+    double *work, size_t work_len,
+    double *result, size_t result_len);
+
+/*
+ * Once the last value is done: looks at all numbers, sorts, and leaves the result. The run has ended then.
+ *
+ * Answers:
+ *   0  the result is full; count: passes run in all
+ *   6  place 0 work, 1 result; 13, also where a step is left. Both change the answer alone
+ *   8, 10  at mark 2, as in symmetric_eigen
+ */
+struct crewelmarsh_eigen_run crewelmarsh_eigen_finish(
+    struct crewelmarsh_eigen_run run,
     double *work, size_t work_len,
     double *result, size_t result_len);
 

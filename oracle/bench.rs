@@ -46,6 +46,9 @@ macro_rules! entries {
     };
 }
 
+#[path = "bench_steps.rs"]
+mod steps;
+
 #[repr(C)]
 struct Shape {
     answer: usize,
@@ -331,6 +334,9 @@ fn main() {
     if std::env::args().nth(1).as_deref() == Some("store") {
         return stores::table();
     }
+    if std::env::args().nth(1).as_deref() == Some("steps") {
+        return steps::table(&mut rng);
+    }
     let about = std::fs::read_to_string("/proc/cpuinfo").unwrap_or_default();
     let model = about.lines().find(|l| l.starts_with("model name")).and_then(|l| l.split(": ").nth(1)).unwrap_or("unknown");
     println!("Machine: {} ({model}).", std::env::consts::ARCH);
@@ -401,4 +407,5 @@ fn main() {
     blocks(&mut rng);
     covariances::table(&mut rng);
     stores::table();
+    steps::table(&mut rng);
 }

@@ -1,8 +1,8 @@
 #!/bin/sh
 # Wrong versions of the patched functions, each behind the C entries in the archive's place. The committed list and the C tests
 # (tests/*.c) must each find every one: a version that agrees with all cases of the list, or that passes all of the tests, fails this
-# script. The patched functions as they are come first, and must pass both. Those of blocks and of the store are for the C tests alone: the list has none.
-# Each line of the table is a sed command on src/patched.rs (for hypot on src/hypot.rs, for blocks on src/block.rs, for the store on src/store.rs); it must change the text.
+# script. The patched functions as they are come first, and must pass both. Those of blocks, of the store and of what a step refuses are for the C tests alone: the list has none.
+# Each line of the table is a sed command on src/patched.rs (for hypot on src/hypot.rs, for blocks on src/block.rs, for the store on src/store.rs, for steps on src/steps.rs); it must change the text.
 # Needs rustc, a C and a C++ compiler: RUSTC, CC, CXX.
 set -e
 cd "$(dirname "$0")"
@@ -32,14 +32,14 @@ tested() { timeout 60 $out/boundary >$out/tests 2>&1 && [ "$(tail -n 1 $out/test
 told() { tail -n 1 "$2" | grep "$1" | sed 's/.*, //' | grep . || echo 'no count'; }
 
 left=0
-cp src/entries.rs src/block.rs src/store.rs src/hypot.rs src/patched.rs $out/
+cp src/entries.rs src/block.rs src/store.rs src/hypot.rs src/patched.rs src/steps.rs $out/
 build
 listed || { echo "the patched functions as they are: the list differs; $(tail -n 1 $out/said)"; left=1; }
 tested || { echo "the patched functions as they are: the C tests fail; $(tail -n 1 $out/tests)"; left=1; }
 while IFS='	' read -r name edit; do
-    cp src/entries.rs src/block.rs src/store.rs src/hypot.rs src/patched.rs $out/
+    cp src/entries.rs src/block.rs src/store.rs src/hypot.rs src/patched.rs src/steps.rs $out/
     text=patched.rs
-    case $name in hypot*) text=hypot.rs ;; block*) text=block.rs ;; store*) text=store.rs ;; esac
+    case $name in hypot*) text=hypot.rs ;; block*) text=block.rs ;; store*) text=store.rs ;; step*) text=steps.rs ;; esac
     sed "$edit" src/$text >$out/$text
     if cmp -s src/$text $out/$text; then
         echo "$name: the edit changes nothing"
@@ -49,6 +49,7 @@ while IFS='	' read -r name edit; do
     build
     if [ $text = block.rs ]; then by_list='has no blocks'
     elif [ $text = store.rs ]; then by_list='has no store'
+    elif [ "${name#step refusal}" != "$name" ]; then by_list='has no damaged run'
     elif listed; then by_list='NOT FOUND'; left=1; else by_list=$(told ', .* differ' $out/said); fi
     if tested; then by_tests='NOT FOUND'; left=1; else by_tests=$(told 'checks, .* failed' $out/tests); fi
     echo "$name: list: $by_list; C tests: $by_tests"
@@ -159,5 +160,23 @@ store set-up keeps blocks	/pub fn set_up/,/^}/s/list\[2 + owner \* OWN\] = 0;//
 store reset empties one	/pub fn reset/,/^}/s/for owner in 0..2/for owner in 0..1/
 store reset wants sound lists	/pub fn reset/,/^}/s/if !laid(list, tiles, bytes) {/if read(0, list, tiles, bytes).is_err() || read(1, list, tiles, bytes).is_err() {/
 store length off by one	s/(0, block.len())/(0, block.len() + 1)/
+step runs two passes	s/^        pass(n, q.edition.*/&&/
+step forgets tst1	/left(&v, &d, &e, work, result);/{n;s/Run { answer/Run { tst1: 0.0, answer/}
+step forgets f	/left(&v, &d, &e, work, result);/{n;s/Run { answer/Run { f: 0.0, answer/}
+step counts from 0	/left(&v, &d, &e, work, result);/{n;s/Run { answer/Run { count: 0, answer/}
+step counts passes over all l	s/^        q.passes = 0;//
+step never uses up the limit	s/} else if q.passes == q.limit {/} else if q.passes > q.limit {/
+step fills nothing at its end	/^fn ended/,/^}/s/result.fill(0.0);//
+step finishes unsorted	s/^    sort(n, &mut v, &mut d);//
+step refusal 13 before 6	s/return Some(told(6, place, 0));/return Some(told(13, 0, 0));/
+step refusal not of a finish too early	s/if q.l < q.n {$/if false {/
+step refusal not of e	s/ && first_bad(&work\[q.l..\]).is_none()//
+step refusal not of d	s/first_bad(&result\[q.l..q.n\]).is_none() && //
+step refusal not of the last e	s/ && work\[q.n - 1\] == 0.0//
+step refusal of tst1 0	s/q.tst1 >= 0.0/q.tst1 > 0.0/
+step refusal not of m	s/ && q.m < q.n / /
+step refusal not of the count	s/ && q.count <= q.l \* q.limit + q.passes//
+step refusal not of the index	s/ && q.index == 0//
+step refusal looks at ended runs	/^pub fn step/,/^}/s/if q.stop != 0 {/if q.stop > 1 {/
 TABLE
 exit $left

@@ -13,7 +13,7 @@ ORACLE_SOURCES := $(wildcard oracle/src/*.rs)
 ORACLE_RUSTC := $(RUSTC) --edition 2024 -C opt-level=3
 ORACLE_ENTRIES := $(ENTRIES:crewelmarsh_%=%)
 
-.PHONY: verbatim oracle oracle-check oracle-mutants oracle-standin findings cases compare compare-hypot bench bench-blocks bench-root has-rustc
+.PHONY: verbatim oracle oracle-check oracle-mutants oracle-standin findings cases compare compare-hypot bench bench-blocks bench-root bench-steps has-rustc
 
 has-rustc:
 	@command -v $(RUSTC) >/dev/null || { echo "the oracle is Rust, and there is no $(RUSTC) here"; exit 1; }
@@ -66,7 +66,7 @@ cases: $(ORACLE)/oracle
 	$(ORACLE)/oracle blocks-wanted >crates/blocks/stdout
 
 # The patched functions behind the C entries, for trying a test or a driver: one object, no other name visible.
-$(ORACLE)/libcrewelmarsh_oracle.a: oracle/src/entries.rs oracle/src/block.rs oracle/src/store.rs oracle/src/patched.rs oracle/src/hypot.rs | has-rustc
+$(ORACLE)/libcrewelmarsh_oracle.a: oracle/src/entries.rs oracle/src/block.rs oracle/src/store.rs oracle/src/patched.rs oracle/src/steps.rs oracle/src/hypot.rs | has-rustc
 	mkdir -p $(ORACLE)
 	$(ORACLE_RUSTC) -C panic=abort --crate-type staticlib --crate-name crewelmarsh_oracle $< -o $(ORACLE)/all.a
 	ld -r --gc-sections $(ORACLE_ENTRIES:%=-u crewelmarsh_%) -o $(ORACLE)/one.o $(ORACLE)/all.a
@@ -132,7 +132,7 @@ $(ORACLE)/triple_kit.o: oracle/triple.c
 	@mkdir -p $(ORACLE)
 	$(CLANG) $(OWN_CLANG) -DTRIPLE=triple_kit -c $< -o $@
 
-$(ORACLE)/bench: oracle/bench.rs oracle/bench_covariance.rs oracle/bench_store.rs $(ORACLE)/liboracle.rlib $(MEASURED) $(TRIPLES)
+$(ORACLE)/bench: oracle/bench.rs oracle/bench_covariance.rs oracle/bench_store.rs oracle/bench_steps.rs $(ORACLE)/liboracle.rlib $(MEASURED) $(TRIPLES)
 	$(ORACLE_RUSTC) --extern oracle=$(ORACLE)/liboracle.rlib -C link-arg=$(MEASURED) $(TRIPLES:%=-C link-arg=%) $< -o $@
 
 bench: $(ORACLE)/bench
@@ -149,6 +149,10 @@ bench-covariance: $(ORACLE)/bench
 # The store's rows alone.
 bench-store: $(ORACLE)/bench
 	$(ORACLE)/bench store
+
+# A run in steps beside the one call, alone.
+bench-steps: $(ORACLE)/bench
+	$(ORACLE)/bench steps
 
 # The root as it is compiled, held to the processor's and measured beside it and beside what stood there before, and both editions of hypot; no archive and no
 # rustc.

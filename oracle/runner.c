@@ -27,9 +27,22 @@ struct extent {
 
 struct extent crewelmarsh_vt_row_extent_abi4(word m, word n, word has_u, word has_vt, word result_len, word j);
 
-enum { EIGEN = 1, SVD, SOLVE, PSEUDO_INVERSE, QR_Q, VT_ROW };
+/* A run of symmetric_eigen in steps. */
+struct run {
+    word n, limit, edition, l, m;
+    double f, tst1;
+    word passes, count, stop, index;
+    struct answer answer;
+};
 
-static const char *const names[] = {"", "symmetric_eigen", "svd", "solve", "pseudo_inverse", "qr_q", "row of V^T"};
+struct run crewelmarsh_eigen_start_abi4(word n, word limit, word edition, const double *, word, double *, word, double *, word);
+struct run crewelmarsh_eigen_step_abi4(struct run, double *, word, double *, word);
+struct run crewelmarsh_eigen_finish_abi4(struct run, double *, word, double *, word);
+
+/* IN_STEPS is no function of the list: each case of EIGEN is run both ways. */
+enum { EIGEN = 1, SVD, SOLVE, PSEUDO_INVERSE, QR_Q, VT_ROW, IN_STEPS, FUNCTIONS };
+
+static const char *const names[] = {"", "symmetric_eigen", "svd", "solve", "pseudo_inverse", "qr_q", "row of V^T", "symmetric_eigen in steps"};
 
 /* ---- input */
 
@@ -136,8 +149,21 @@ static word row(struct extent at) {
     return at.length;
 }
 
+/* As the list has its old contents. */
+static void before(word old) {
+    for (word i = 0; i < work.len; i++) start(&work)[i] = number(old + i);
+    for (word i = 0; i < result.len; i++) start(&result)[i] = number(old + work.len + i);
+    keep(&work), keep(&result);
+}
+
+static struct answer in_steps(const word *p, double *pa, double *pw, double *pr) {
+    struct run q = crewelmarsh_eigen_start_abi4(p[0], p[1], p[2], pa, a.len, pw, work.len, pr, result.len);
+    for (int i = 0; i < 60 * 256 && q.stop == 0 && q.l < q.n; i++) q = crewelmarsh_eigen_step_abi4(q, pw, work.len, pr, result.len);
+    return crewelmarsh_eigen_finish_abi4(q, pw, work.len, pr, result.len).answer;
+}
+
 int main(void) {
-    word total[7] = {0}, agree[7] = {0}, turn = 0, told = 0;
+    word total[FUNCTIONS] = {0}, agree[FUNCTIONS] = {0}, turn = 0, told = 0;
     for (;; turn++) {
         word f = next();
         if (f == 0) break;
@@ -160,12 +186,13 @@ int main(void) {
             *(i < a.len ? start(&a) + i : start(&b) + (i - a.len)) = x;
         }
         for (word i = 0; i < words; i++) shown[i] = number(next());
-        for (word i = 0; i < work.len; i++) start(&work)[i] = number(old + i);
-        for (word i = 0; i < result.len; i++) start(&result)[i] = number(old + work.len + i);
-        keep(&a), keep(&b), keep(&work), keep(&result);
+        keep(&a), keep(&b);
         double *pa = slice(&a, turn), *pb = slice(&b, turn), *pw = slice(&work, turn), *pr = slice(&result, turn);
         double tolerance = number(p[4]);
+    again:
+        before(old);
         switch (f) {
+        case IN_STEPS: got = in_steps(p, pa, pw, pr); break;
         case EIGEN: got = crewelmarsh_symmetric_eigen_abi4(p[0], p[1], p[2], pa, a.len, pw, work.len, pr, result.len); break;
         case SVD: got = crewelmarsh_svd_abi4(p[0], p[1], p[2], p[3], p[4], pa, a.len, pw, work.len, pr, result.len); break;
         case SOLVE: got = crewelmarsh_solve_abi4(p[0], p[1], p[2], p[3], tolerance, pa, a.len, pb, b.len, pr, result.len); break;
@@ -186,12 +213,16 @@ int main(void) {
                    turn,
                    names[f], p[0], p[1], p[2], p[3], p[4], a.len, b.len, work.len, result.len, got.answer, got.place,
                    got.index, got.count, wanted.answer, wanted.place, wanted.index, wanted.count);
+        if (f == EIGEN) {
+            f = IN_STEPS;
+            goto again;
+        }
     }
     word bad = 0, calls = 0;
-    for (int f = EIGEN; f <= VT_ROW; f++) {
+    for (int f = EIGEN; f < FUNCTIONS; f++) {
         printf("%s: %lu of %lu agree\n", names[f], agree[f], total[f]);
         bad += total[f] - agree[f];
-        calls += total[f];
+        calls += f == IN_STEPS ? 0 : total[f];
     }
     printf("%lu cases, %lu differ%s\n", calls, bad, cut ? "; the list is cut short" : "");
     return bad != 0 || calls == 0 || cut;

@@ -31,5 +31,7 @@ int main(void)
     test_covariance();
     group("store");
     test_store();
+    group("eigen in steps");
+    test_steps();
     return report();
 }

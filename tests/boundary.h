@@ -93,5 +93,6 @@ void test_numbers(void);
 void test_blocks(void);
 void test_covariance(void);
 void test_store(void);
+void test_steps(void);
 
 #endif

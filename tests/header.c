@@ -45,7 +45,7 @@ SAME(covariance_matrix, CREWELMARSH_COVARIANCE_MATRIX_LEN(3), 9);
 #error "the version is no number"
 #endif
 
-/* "4.0.0", of one digit each until one has more. */
+/* "4.1.0", of one digit each until one has more. */
 static int version_right(void)
 {
     const char *v = CREWELMARSH_VERSION;
@@ -61,7 +61,7 @@ static int constants_right(void)
     return CREWELMARSH_DONE == 0 && CREWELMARSH_DIMENSION == 1 && CREWELMARSH_LIMIT == 2 &&
            CREWELMARSH_NO_U == 3 && CREWELMARSH_NO_VT == 4 && CREWELMARSH_RIGHT_SIDE == 5 &&
            CREWELMARSH_LENGTH == 6 && CREWELMARSH_NOT_FINITE == 7 && CREWELMARSH_OVERFLOW == 8 &&
-           CREWELMARSH_LIMIT_USED == 9 && CREWELMARSH_INVALID == 10 && CREWELMARSH_TOLERANCE == 11 && CREWELMARSH_EDITION == 12 && CREWELMARSH_BLOCK_SHORT == 20 &&
+           CREWELMARSH_LIMIT_USED == 9 && CREWELMARSH_INVALID == 10 && CREWELMARSH_TOLERANCE == 11 && CREWELMARSH_EDITION == 12 && CREWELMARSH_RUN == 13 && CREWELMARSH_BLOCK_SHORT == 20 &&
            CREWELMARSH_BLOCK_OVER == 21 && CREWELMARSH_BLOCK_COUNT == 22 && CREWELMARSH_BLOCK_KIND == 23 &&
            CREWELMARSH_BLOCK_OFFSET == 24 && CREWELMARSH_VALUES == 1 && CREWELMARSH_MATRIX == 2 &&
            CREWELMARSH_INVERSE == 3 && CREWELMARSH_BLOCK_MOST == 1050672 && CREWELMARSH_MAX_DIMENSION == 256 &&
@@ -88,13 +88,13 @@ static int store_constants_right(void)
 /* The text of each number differs from the others, and from the one that all other numbers have. */
 static int texts_differ(void)
 {
-    static const size_t numbers[] = {0, 1, 2, 3, 4, 5, 6, 7, 8, 9, 10, 11, 12, 20, 21, 22, 23, 24, 25, 26, 30, 31, 32, 33, 34, 35, 37, 39, (size_t)-1};
+    static const size_t numbers[] = {0, 1, 2, 3, 4, 5, 6, 7, 8, 9, 10, 11, 12, 13, 20, 21, 22, 23, 24, 25, 26, 30, 31, 32, 33, 34, 35, 37, 39, (size_t)-1};
     size_t a, b;
     for (a = 0; a < sizeof numbers / sizeof numbers[0]; a++)
         for (b = 0; b < a; b++)
             if (strcmp(crewelmarsh_text(numbers[a]), crewelmarsh_text(numbers[b])) == 0)
                 return 0;
-    return strcmp(crewelmarsh_text(13), crewelmarsh_text((size_t)-1)) == 0 && strcmp(crewelmarsh_text(19), crewelmarsh_text(27)) == 0 &&
+    return strcmp(crewelmarsh_text(14), crewelmarsh_text((size_t)-1)) == 0 && strcmp(crewelmarsh_text(19), crewelmarsh_text(27)) == 0 &&
            strcmp(crewelmarsh_text(36), crewelmarsh_text(40)) == 0;
 }
 
@@ -190,6 +190,29 @@ static int store_links(void)
            is_answer(crewelmarsh_store_drop(2, list, 69, tiles, 64, NULL, 0, 7), 34, 0, 0);
 }
 
+/* A run's record likewise: eleven numbers and the answer, two of them doubles. */
+static int run_in_order(void)
+{
+    struct crewelmarsh_eigen_run r;
+    size_t before[5] = {1, 2, 3, 4, 5}, behind[8] = {8, 9, 10, 11, 12, 13, 14, 15};
+    double between[2] = {6, 7};
+    unsigned char bytes[15 * 8];
+    memcpy(bytes, before, sizeof before);
+    memcpy(bytes + 5 * 8, between, sizeof between);
+    memcpy(bytes + 7 * 8, behind, sizeof behind);
+    memcpy(&r, bytes, sizeof r);
+    return r.n == 1 && r.limit == 2 && r.edition == 3 && r.l == 4 && r.m == 5 && r.f == 6 && r.tst1 == 7 && r.passes == 8 && r.count == 9 &&
+           r.stop == 10 && r.index == 11 && r.answer.answer == 12 && r.answer.place == 13 && r.answer.index == 14 && r.answer.count == 15;
+}
+
+/* A run of no value has ended at its start. */
+static int steps_link(void)
+{
+    struct crewelmarsh_eigen_run r = crewelmarsh_eigen_start(0, 60, 1, NULL, 0, NULL, 0, NULL, 0);
+    return !crewelmarsh_eigen_goes_on(r) && is_answer(crewelmarsh_eigen_step(r, NULL, 0, NULL, 0).answer, 0, 0, 0) &&
+           is_answer(crewelmarsh_eigen_finish(r, NULL, 0, NULL, 0).answer, 0, 0, 0);
+}
+
 /* An svd runs one sweep over no pair; the others do nothing. */
 static int entries_link(void)
 {
@@ -220,6 +243,9 @@ void TEST_HEADER(void (*check)(int good, const char *what))
     check(texts_differ(), "texts");
     check(sizeof(struct crewelmarsh_answer) == 4 * sizeof(size_t), "four numbers");
     check(in_order(), "answer, place, index, count");
+    check(sizeof(struct crewelmarsh_eigen_run) == 15 * 8, "fifteen numbers");
+    check(run_in_order(), "the fields of a run");
+    check(steps_link(), "a run in steps");
     for (i = 0; i < DIMENSIONS; i++) {
         check(square_lengths_right(dimensions[i]), "lengths by n");
         for (j = 0; j < DIMENSIONS; j++)

@@ -99,6 +99,9 @@ check 'a header of another major' same "$(cmp include/crewelmarsh.h "$scratch/ot
 # Each entry by a call of its own, compiled with a header of the next major version.
 call() { printf '#include "crewelmarsh.h"\nint main(void) { return crewelmarsh_%s%s%s != 0; }\n' "$1" "$2" "${3:+.$3}" >"$scratch/crewelmarsh_$1.c"; }
 call symmetric_eigen '(0, 60, 1, NULL, 0, NULL, 0, NULL, 0)' answer
+call eigen_start '(0, 60, 1, NULL, 0, NULL, 0, NULL, 0)' answer.answer
+call eigen_step '(crewelmarsh_eigen_start(0, 60, 1, NULL, 0, NULL, 0, NULL, 0), NULL, 0, NULL, 0)' answer.answer
+call eigen_finish '(crewelmarsh_eigen_start(0, 60, 1, NULL, 0, NULL, 0, NULL, 0), NULL, 0, NULL, 0)' answer.answer
 call svd '(0, 0, 1, 1, 60, NULL, 0, NULL, 0, NULL, 0)' answer
 call vt_row_extent '(0, 0, 1, 1, 0, 0)' length
 call solve '(0, 0, 1, 1, 0, NULL, 0, NULL, 0, NULL, 0)' answer

@@ -2,8 +2,8 @@
 # x86-64; where the machine is not, the toolchain has an emulator and they run under it.
 #
 #   make archive       dist/libcrewelmarsh.a and dist/crewelmarsh.h
-#   make example       builds and runs examples/codec.c
-#   make example-test  the same, and what it writes is held to examples/codec.expected
+#   make example       builds and runs examples/codec.c and examples/decoder.c
+#   make example-test  the same, and what each writes is held to examples/NAME.expected
 #   make boundary      the test of the C boundary: header, names, every entry and answer
 #
 # ARCHIVE=PATH tests another archive with the same entries.
@@ -30,8 +30,8 @@ VERSION := $(MAJOR).$(call said,MINOR).$(call said,PATCH)
 ENTRIES := $(shell sed -n 's/^.define \(crewelmarsh_[a-z_]*\) CREWELMARSH_NAME.*/\1_abi$(MAJOR)/p' include/crewelmarsh.h)
 
 # How many checks the boundary's test makes.
-BOUNDARY_CHECKS := 132691
-BOUNDARY_PARTS := boundary check eigen svd row solve qr marks sizes numbers block covariance store header header_cpp
+BOUNDARY_CHECKS := 147044
+BOUNDARY_PARTS := boundary check eigen svd row solve qr marks sizes numbers block covariance store steps header header_cpp
 BOUNDARY_OBJECTS := $(BOUNDARY_PARTS:%=build/tests/%.o)
 
 TARGET_FLAGS := --target=x86_64-unknown-linux-gnu -march=x86-64 --no-default-config \
@@ -54,16 +54,19 @@ dist/crewelmarsh.h: include/crewelmarsh.h
 	@mkdir -p dist
 	cp $< $@
 
-example: build/examples/codec
-	@$(RUN) $<
+EXAMPLES := codec decoder
+
+example: $(EXAMPLES:%=build/examples/%)
+	@for name in $(EXAMPLES); do $(RUN) build/examples/$$name || exit 1; done
 
 # Both the status and every line.
-example-test: build/examples/codec
-	@if ! $(RUN) $< >$<.out; then cat $<.out; echo 'example: it says that it is not good'; exit 1; fi
-	@cmp $<.out examples/codec.expected || { cat $<.out; echo 'example: examples/codec.expected was expected'; exit 1; }
-	@echo "example: $$(wc -l <$<.out) lines, as expected"
+example-test: $(EXAMPLES:%=build/examples/%)
+	@for name in $(EXAMPLES); do out=build/examples/$$name.out; \
+	    if ! $(RUN) build/examples/$$name >$$out; then cat $$out; echo "example $$name: it says that it is not good"; exit 1; fi; \
+	    cmp $$out examples/$$name.expected || { cat $$out; echo "example: examples/$$name.expected was expected"; exit 1; }; \
+	    echo "example $$name: $$(wc -l <$$out) lines, as expected"; done
 
-build/examples/codec: build/examples/codec.o $(ARCHIVE) FORCE
+$(EXAMPLES:%=build/examples/%): build/examples/%: build/examples/%.o $(ARCHIVE) FORCE
 	@$(LINK) -o $@ $(filter-out FORCE,$^) 2>$@.log || { cat $@.log; exit 1; }
 
 build/examples/%.o: examples/%.c $(HEADERS)

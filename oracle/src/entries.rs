@@ -9,8 +9,11 @@ mod hypot;
 #[allow(dead_code)]
 mod patched;
 mod store;
+#[allow(dead_code)]
+mod steps;
 
 use patched::Answer;
+use steps::Run;
 use std::slice;
 
 unsafe fn lent<'a>(start: *const f64, len: usize) -> &'a [f64] {
@@ -36,6 +39,31 @@ pub unsafe extern "C" fn crewelmarsh_symmetric_eigen_abi4(
     unsafe {
         patched::symmetric_eigen(n, limit, edition, lent(matrix, matrix_len), lent_mut(work, work_len), lent_mut(result, result_len))
     }
+}
+
+#[unsafe(no_mangle)]
+pub unsafe extern "C" fn crewelmarsh_eigen_start_abi4(
+    n: usize,
+    limit: usize,
+    edition: usize,
+    matrix: *const f64,
+    matrix_len: usize,
+    work: *mut f64,
+    work_len: usize,
+    result: *mut f64,
+    result_len: usize,
+) -> Run {
+    unsafe { steps::start(n, limit, edition, lent(matrix, matrix_len), lent_mut(work, work_len), lent_mut(result, result_len)) }
+}
+
+#[unsafe(no_mangle)]
+pub unsafe extern "C" fn crewelmarsh_eigen_step_abi4(run: Run, work: *mut f64, work_len: usize, result: *mut f64, result_len: usize) -> Run {
+    unsafe { steps::step(run, lent_mut(work, work_len), lent_mut(result, result_len)) }
+}
+
+#[unsafe(no_mangle)]
+pub unsafe extern "C" fn crewelmarsh_eigen_finish_abi4(run: Run, work: *mut f64, work_len: usize, result: *mut f64, result_len: usize) -> Run {
+    unsafe { steps::finish(run, lent_mut(work, work_len), lent_mut(result, result_len)) }
 }
 
 #[unsafe(no_mangle)]

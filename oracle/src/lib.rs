@@ -10,3 +10,4 @@ pub mod pairs;
 pub mod patched;
 pub mod plain;
 pub mod special;
+pub mod steps;

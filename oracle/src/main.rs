@@ -2,14 +2,14 @@
 //! `check SEED CASES LARGEST`, `findings`, `hypots SEED PAIRS`, `hypots-wanted SEED PAIRS`, `hypots-platform SEED PAIRS`.
 
 use oracle::cases::*;
-use oracle::{blocks, findings, pairs, plain, special};
+use oracle::{blocks, findings, pairs, plain, special, steps};
 use std::io::{self, BufWriter, Write};
 
 /// Words of a result up to this many stand in the committed list; a longer one is there by its hash.
 const SHOWN: usize = 40;
 const LIST_SEED: u64 = 8;
 const LIST_RANDOM: usize = 3000;
-const NAMES: [&str; 7] = ["", "symmetric_eigen", "svd", "solve", "pseudo_inverse", "qr_q", "row of V^T"];
+const NAMES: [&str; 8] = ["", "symmetric_eigen", "svd", "solve", "pseudo_inverse", "qr_q", "row of V^T", "symmetric_eigen in steps"];
 
 /// The cases of the committed list.
 fn listed() -> Vec<Case> {
@@ -41,9 +41,10 @@ fn list(out: &mut impl Write) -> io::Result<()> {
 
 /// What a replay of the list writes where all agree.
 fn agreed(out: &mut impl Write) -> io::Result<()> {
-    let mut counts = [0; 7];
+    let mut counts = [0; 8];
     listed().iter().for_each(|case| counts[case.function as usize] += 1);
-    for function in 1..7 {
+    counts[7] = counts[EIGEN as usize];
+    for function in 1..8 {
         writeln!(out, "{}: {} of {}", NAMES[function], counts[function], counts[function])?;
     }
     Ok(())
@@ -58,7 +59,7 @@ fn fresh(out: &mut impl Write, seed: u64, cases: usize, largest: u64) -> io::Res
     out.write_all(&0u64.to_le_bytes())
 }
 
-/// Where the patched functions answer 0, document 000 with the edition's hypot gives the same bits. Also says how many answers
+/// Where the patched functions answer 0, document 000 with the edition's hypot gives the same bits; and a run in steps ends as the one call. Also says how many answers
 /// of each number there were, and in how many cases the platform's hypot gives other bits than each edition.
 fn check(seed: u64, cases: usize, largest: u64) -> bool {
     let mut answers = [[0usize; 13]; 7];
@@ -89,6 +90,15 @@ fn check(seed: u64, cases: usize, largest: u64) -> bool {
             1..=6 | 11 | 12 => same(&work, &done.work) && same(&result, &done.result),
             _ => plus_zero(&done.work) && plus_zero(&done.result),
         };
+        if case.function == EIGEN {
+            let p = case.parameters.map(|p| p as usize);
+            let (mut work, mut result) = case.before();
+            let answer = steps::whole(p[0], p[1], p[2], &case.a, &mut work, &mut result);
+            if answer != done.answer || !same(&work, &done.work) || !same(&result, &done.result) {
+                wrong += 1;
+                println!("in steps {answer:?}: {:?} {:?}", case.parameters, case.a);
+            }
+        }
         if !fits {
             wrong += 1;
             println!("arrays or index after answer {}: {} {:?}", done.answer.answer, NAMES[case.function as usize], case.parameters);

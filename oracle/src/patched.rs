@@ -12,10 +12,10 @@ pub struct Answer {
     pub count: usize,
 }
 
-const LARGEST: usize = 256;
-const MOST: usize = 60;
+pub const LARGEST: usize = 256;
+pub const MOST: usize = 60;
 
-fn told(answer: usize, place: usize, count: usize) -> Answer {
+pub fn told(answer: usize, place: usize, count: usize) -> Answer {
     Answer { answer, place, index: 0, count }
 }
 
@@ -25,18 +25,18 @@ fn class(x: f64) -> usize {
 }
 
 /// A mark: the refusal of the first number that is not finite in the arrays, one behind the other.
-fn mark(place: usize, count: usize, arrays: &[&[f64]]) -> Option<Answer> {
+pub fn mark(place: usize, count: usize, arrays: &[&[f64]]) -> Option<Answer> {
     let numbers = arrays.concat();
     let index = first_bad(&numbers)?;
     Some(Answer { answer: class(numbers[index]), place, index, count })
 }
 
-fn first_bad(numbers: &[f64]) -> Option<usize> {
+pub fn first_bad(numbers: &[f64]) -> Option<usize> {
     numbers.iter().position(|x| !x.is_finite())
 }
 
 /// The first array whose length is not the one wanted, numbered from 0.
-fn first_wrong(lengths: &[(usize, usize)]) -> Option<usize> {
+pub fn first_wrong(lengths: &[(usize, usize)]) -> Option<usize> {
     lengths.iter().position(|(has, wants)| has != wants)
 }
 
@@ -82,7 +82,7 @@ pub fn symmetric_eigen(n: usize, limit: usize, edition: usize, matrix: &[f64], w
     answer
 }
 
-fn tred2(n: usize, v: &mut [f64], d: &mut [f64], e: &mut [f64]) {
+pub fn tred2(n: usize, v: &mut [f64], d: &mut [f64], e: &mut [f64]) {
     for j in 0..n {
         d[j] = v[(n - 1) * n + j];
     }
@@ -176,11 +176,15 @@ fn tred2(n: usize, v: &mut [f64], d: &mut [f64], e: &mut [f64]) {
     e[0] = 0.0;
 }
 
-fn tql2(n: usize, limit: usize, edition: usize, v: &mut [f64], d: &mut [f64], e: &mut [f64]) -> Answer {
+pub fn move_up(n: usize, e: &mut [f64]) {
     for i in 1..n {
         e[i - 1] = e[i];
     }
     e[n - 1] = 0.0;
+}
+
+fn tql2(n: usize, limit: usize, edition: usize, v: &mut [f64], d: &mut [f64], e: &mut [f64]) -> Answer {
+    move_up(n, e);
 
     let mut f = 0.0_f64;
     let mut tst1 = 0.0_f64;
@@ -217,6 +221,12 @@ fn tql2(n: usize, limit: usize, edition: usize, v: &mut [f64], d: &mut [f64], e:
         return refusal;
     }
 
+    sort(n, v, d);
+    told(0, 0, count)
+}
+
+/// The selection sort at the end of `tql2`.
+pub fn sort(n: usize, v: &mut [f64], d: &mut [f64]) {
     for i in 0..n - 1 {
         let mut k = i;
         let mut p = d[i];
@@ -234,11 +244,10 @@ fn tql2(n: usize, limit: usize, edition: usize, v: &mut [f64], d: &mut [f64], e:
             }
         }
     }
-    told(0, 0, count)
 }
 
 /// One QL pass of `tql2`: the body of its unbounded `loop`.
-fn pass(n: usize, edition: usize, l: usize, m: usize, f: &mut f64, v: &mut [f64], d: &mut [f64], e: &mut [f64]) {
+pub fn pass(n: usize, edition: usize, l: usize, m: usize, f: &mut f64, v: &mut [f64], d: &mut [f64], e: &mut [f64]) {
     let mut g = d[l];
     let mut p = (d[l + 1] - g) / (2.0 * e[l]);
     let mut r = by_edition(edition, p, 1.0);

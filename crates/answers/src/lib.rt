@@ -79,7 +79,7 @@ pub fn limit_good(limit: usize) -> bool
 }
 
 // An edition of hypot is 1 or 2.
-fn edition_good(edition: usize) -> bool
+pub fn edition_good(edition: usize) -> bool
     ensures { λ r. ⌜ r ≡ editionGood edition ⌝ }
 {
     if edition < 1 {

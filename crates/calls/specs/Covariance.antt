@@ -1,42 +1,24 @@
 -- Calls of `covariance` that meet its promise: o and p are what they came back with. What one that is done gave is taken by `symmetric_eigen`. Laws only.
-use mathlib.Core.Path.{_≡_, refl, sym, ap, _∙_, subst}
+use mathlib.Core.Path.{_≡_, sym, ap, _∙_, subst}
 use mathlib.Core.List.{List}
-use mathlib.Core.Logic.{_⊎_, inl, inr}
+use mathlib.Core.Logic.{_⊎_}
 use Prim.Native.Nat.{ℕ, _+_, _*_, _≤_, _<_}
 use native.Mathlib.Omega.{arith}
 use lib.IntN.{ℤ}
 use lib.ListN.{length}
-use Rattle.grid.specs.Real.{Vec, at}
+use Rattle.grid.specs.Real.{Vec}
 use Rattle.grid.specs.Cell.{entry}
 use Rattle.grid.specs.CellLaws.{cell}
 use Rattle.leaves.specs.Finite.{Finite}
-use Rattle.leaves.specs.ScanLaws.{first-class}
-use Rattle.answers.specs.Index.{Class}
 use Rattle.answers.specs.declared.Answer.{Answer}
-use Rattle.told.specs.Told.{list1, list2, Told, well, at-mark2, at-mark1, at-limit}
-use Rattle.told.specs.ToldLaws.{mark1-sees}
 use Rattle.eigen.specs.Eigen.{eigen}
-use Rattle.exact.specs.Exact.{Outcome, Promised, Taken, Says, nothing, at-mark0, runs, reduced, list0}
-use Rattle.exact.specs.ExactLaws.{says, given-answer}
+use Rattle.exact.specs.Exact.{Outcome, Promised, Taken}
+use Rattle.exact.specs.ExactLaws.{says}
+use Rattle.exact.specs.Ran.{Ran, says-ran}
 use Rattle.covariance.specs.Covariance.{covariance}
 use Rattle.entries.specs.Exact.{Exactly, FirstOver, Untouched}
 use Rattle.entries.specs.ExactLaws.{covariance-sizes, covariance-long, covariance-symmetric, covariance-exact, covariance-finite-out, covariance-over-first}
 use Rattle.entries.specs.One.{covariance-old-contents, covariance-index-zero}
-
--- done, stopped by a mark or by the limit: no refusal over sizes, lengths or what is read
-abbrev pub Ran : Answer → Type 0
-Ran x = (x .answer ≡ 0) ⊎ (x .answer ≡ 9) ⊎ Class (x .answer)
-
-told-ran : (n limit edition : ℕ) (x : Vec × Vec × Vec) (o : Answer × Vec × Vec × Vec) → Told n limit edition x o → Ran (o .0)
-told-ran n limit edition x o (well r w) = inl refl
-told-ran n limit edition x o (at-mark2 {c = c} {b = b} {i = i} {y = y} r f) = inr (inr (first-class (at (list2 n y)) (length (list2 n y)) i b f))
-told-ran n limit edition x o (at-mark1 {l = l} {c = c} {k = k} {b = b} {i = i} {y = y} {z = z} h r t) = inr (inr (first-class (at (list1 z)) (length (list1 z)) i b (mark1-sees n limit edition l t)))
-told-ran n limit edition x o (at-limit h r t) = inr (inl refl)
-
-says-ran : (n limit edition : ℕ) (a : Vec) (o : Outcome) → Says n limit edition a o → Ran (o .0)
-says-ran n limit edition a o (nothing z) = inl refl
-says-ran n limit edition a o (at-mark0 {b = b} {i = i} h) = inr (inr (first-class (at (list0 n (reduced n a))) (length (list0 n (reduced n a))) i b (h .seen)))
-says-ran n limit edition a o (runs {o = p} z r t) = subst Ran (sym (given-answer n p)) (told-ran n limit edition (reduced n a) p t)
 
 module _ (n N : ℕ) (samples : List ℤ) (m : Vec) (o : Answer × Vec) (p : o ≡ covariance n N samples m) where
   pub covariance-over-first-calls : o .0 .answer ≡ 26 → FirstOver n N samples (o .0 .place)

@@ -3,6 +3,7 @@
 // header's major version, so that a program built with a header of another one doesn't link.
 ghost use mathlib.Core.Path.{_≡_};
 ghost use Rattle.eigen.specs.Eigen.{eigen};
+ghost use Rattle.steps.specs.Steps.{started, stepped, finished};
 ghost use Rattle.svd.specs.Svd.{svd};
 ghost use Rattle.row.specs.Row.{rowSpan, extentOf};
 ghost use Rattle.solve.specs.Solve.{solve, pseudoInverse};
@@ -16,6 +17,7 @@ use answers::Answer;
 use blockread::Found;
 use blockread::Shape;
 use row::Extent;
+use steps::EigenRun;
 
 #[no_mangle]
 pub extern "C" fn crewelmarsh_symmetric_eigen_abi4(
@@ -30,6 +32,46 @@ pub extern "C" fn crewelmarsh_symmetric_eigen_abi4(
 {
     eigen::symmetric_eigen(n, limit, edition, matrix, work, result)
 }
+
+// ---- the same one pass at a time
+
+#[no_mangle]
+pub extern "C" fn crewelmarsh_eigen_start_abi4(
+    n: usize,
+    limit: usize,
+    edition: usize,
+    matrix: &[f64],
+    work: &mut [f64],
+    result: &mut [f64],
+) -> EigenRun
+    ensures { λ q. ⌜ (q, now (work .exit), now (result .exit)) ≡ started n limit edition (now (matrix .entry)) (now (work .entry)) (now (result .entry)) ⌝ }
+{
+    EigenRun::start(n, limit, edition, matrix, work, result)
+}
+
+#[no_mangle]
+pub extern "C" fn crewelmarsh_eigen_step_abi4(
+    run: EigenRun,
+    work: &mut [f64],
+    result: &mut [f64],
+) -> EigenRun
+    ensures { λ q. ⌜ (q, now (work .exit), now (result .exit)) ≡ stepped run (now (work .entry)) (now (result .entry)) ⌝ }
+{
+    run.step(work, result)
+}
+
+#[no_mangle]
+pub extern "C" fn crewelmarsh_eigen_finish_abi4(
+    run: EigenRun,
+    work: &mut [f64],
+    result: &mut [f64],
+) -> EigenRun
+    ensures { λ q. ⌜ (q, now (work .exit), now (result .exit)) ≡ finished run (now (work .entry)) (now (result .entry)) ⌝ }
+{
+    run.finish(work, result)
+}
+
+// ---- the others
 
 #[no_mangle]
 pub extern "C" fn crewelmarsh_svd_abi4(

@@ -41,7 +41,7 @@ fn copy_row(n: usize, i: usize, a: &[f64], v: &mut [f64])
 }
 
 // The whole matrix, which stands row by row, into v, which stands column by column.
-fn columns(n: usize, a: &[f64], v: &mut [f64])
+pub fn columns(n: usize, a: &[f64], v: &mut [f64])
     requires { ⌜ (length (now a) ≡ n * n) × (length (now v) ≡ n * n) ⌝ }
     ensures { λ _. ⌜ now (v .exit) ≡ columns n (now (a .entry)) (now (v .entry)) ⌝ }
 {
@@ -64,7 +64,7 @@ fn mirror_row(n: usize, i: usize, v: &mut [f64])
 }
 
 // v, which stands column by column, comes to stand row by row.
-fn rows(n: usize, v: &mut [f64])
+pub fn rows(n: usize, v: &mut [f64])
     requires { ⌜ length (now v) ≡ n * n ⌝ }
     ensures { λ _. ⌜ now (v .exit) ≡ rows n (now (v .entry)) ⌝ }
 {
@@ -74,7 +74,7 @@ fn rows(n: usize, v: &mut [f64])
 }
 
 // Mark 0.
-fn mark0(n: usize, v: &[f64], d: &[f64], e: &[f64]) -> Bad
+pub fn mark0(n: usize, v: &[f64], d: &[f64], e: &[f64]) -> Bad
     ensures { λ r. ⌜ r ≡ mark0 n (now (v .entry)) (now (d .entry)) (now (e .entry)) ⌝ }
 {
     let b = mark1(d, e);
@@ -143,7 +143,7 @@ fn decompose_rows(
 }
 
 // The first numbers of result become those of d.
-fn put_first(d: &[f64], result: &mut [f64])
+pub fn put_first(d: &[f64], result: &mut [f64])
     requires { ⌜ length (now d) ≤ length (now result) ⌝ }
     ensures { λ _. ⌜ now (result .exit) ≡ now (d .entry) ++ drop (length (now (d .entry))) (now (result .entry)) ⌝ }
 {
@@ -153,7 +153,7 @@ fn put_first(d: &[f64], result: &mut [f64])
 }
 
 // What is lent, after a run with the values d.
-fn give(r: Answer, d: &[f64], work: &mut [f64], result: &mut [f64]) -> Answer
+pub fn give(r: Answer, d: &[f64], work: &mut [f64], result: &mut [f64]) -> Answer
     requires { ⌜ length (now d) ≤ length (now result) ⌝ }
     ensures { λ q. ⌜ (q, now (work .exit), now (result .exit)) ≡ laid r (now (d .entry)) (now (work .entry)) (now (result .entry)) ⌝ }
 {

@@ -9,3 +9,4 @@ pub mod Index
 pub mod Result
 pub mod Old
 pub mod Edition
+pub mod Ran

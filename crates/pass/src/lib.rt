@@ -18,6 +18,7 @@ use leaves::magnitude;
 
 // A run of `tql2` at l. stop is 0 while passes are to be run at l, 1 where l has settled, 8 or 10 where a number is not
 // finite, which index tells, 9 where the limit is used up.
+#[repr(C)]
 pub struct Run {
     pub l: usize,
     pub m: usize,

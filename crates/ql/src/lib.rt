@@ -32,7 +32,7 @@ pub struct Best {
 }
 
 // The subdiagonal moves one place towards the start, and its last is 0.
-fn move_up(n: usize, e: &mut [f64])
+pub fn move_up(n: usize, e: &mut [f64])
     requires { ⌜ (0 < n) × (length (now e) ≡ n) ⌝ }
     ensures { λ _. ⌜ now (e .exit) ≡ movedUp n (now (e .entry)) ⌝ }
 {
@@ -58,7 +58,7 @@ fn split(n: usize, l: usize, tst1: f64, e: &[f64]) -> usize
 }
 
 // The run comes to l.
-fn begin(n: usize, l: usize, r: Run, d: &[f64], e: &[f64]) -> Run
+pub fn begin(n: usize, l: usize, r: Run, d: &[f64], e: &[f64]) -> Run
     requires { ⌜ (l < n) × (length (now d) ≡ n) × (length (now e) ≡ n) ⌝ }
     ensures { λ q. ⌜ q ≡ opened n l r (now (d .entry)) (now (e .entry)) ⌝ }
 {
@@ -115,7 +115,7 @@ fn iterate(
 }
 
 // What the passes at l came to.
-fn close(r: Run, d: &mut [f64], e: &mut [f64]) -> Run
+pub fn close(r: Run, d: &mut [f64], e: &mut [f64]) -> Run
     requires { ⌜ (r .l < length (now d)) × (r .l < length (now e)) ⌝ }
     ensures { λ q. ⌜ ((v : Vec) → (q, v, now (d .exit), now (e .exit)) ≡ closed (r, v, now (d .entry), now (e .entry))) ⌝ }
 {
@@ -132,7 +132,7 @@ fn close(r: Run, d: &mut [f64], e: &mut [f64]) -> Run
 }
 
 // r with another reason to stop, which is no mark.
-fn stopping(r: Run, stop: usize) -> Run
+pub fn stopping(r: Run, stop: usize) -> Run
     ensures { λ q. ⌜ q ≡ stopping r stop ⌝ }
 {
     Run {
@@ -261,7 +261,7 @@ fn mark2(n: usize, v: &[f64], d: &[f64]) -> Bad
 }
 
 // The answer of a run, and the sort where it is done.
-fn finish(n: usize, r: Run, v: &mut [f64], d: &mut [f64]) -> Answer
+pub fn finish(n: usize, r: Run, v: &mut [f64], d: &mut [f64]) -> Answer
     requires { ⌜ (0 < n) × (length (now v) ≡ n * n) × (length (now d) ≡ n) ⌝ }
     ensures { λ a. ⌜ ((e : Vec) → (a, now (v .exit), now (d .exit), e) ≡ finished n (r, now (v .entry), now (d .entry), e)) ⌝ }
 {

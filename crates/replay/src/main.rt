@@ -1,5 +1,5 @@
 // Replays the oracle's cases from standard input (oracle/README.md has their form) and writes, by function, how many
-// agree: the four numbers, and every number of the arrays afterwards.
+// agree: the four numbers, and every number of the arrays afterwards. Each case of symmetric_eigen is run in steps too.
 
 // ---- words and numbers
 
@@ -288,6 +288,94 @@ fn case(
     agrees(c, wanted, a, b, work, result)
 }
 
+// ---- the same in steps
+
+fn unfinished(q: steps::EigenRun) -> bool {
+    let r = q.run;
+    if r.stop != 0 {
+        return false;
+    }
+    r.l < q.n
+}
+
+// Steps until none is left; 60 * 256 always do.
+fn stepped(q0: steps::EigenRun, work: &mut [f64], result: &mut [f64]) -> steps::EigenRun {
+    let mut q = q0;
+    let mut left = 15360u64;
+    while left > 0 && unfinished(q) {
+        q = q.step(work, result);
+        left -= 1;
+    }
+    q
+}
+
+fn in_steps(
+    n: usize,
+    limit: usize,
+    edition: usize,
+    a: &[f64],
+    work: &mut [f64],
+    result: &mut [f64],
+) -> answers::Answer {
+    let q = steps::EigenRun::start(n, limit, edition, a, work, result);
+    let r = stepped(q, work, result);
+    let f = r.finish(work, result);
+    f.answer
+}
+
+// The case once more, on the matrix as it was given and with the same old contents.
+fn agrees_in_steps(
+    c: Asked,
+    inputs: Inputs,
+    wanted: Wanted,
+    a: &[f64],
+    work: &mut [f64],
+    result: &mut [f64],
+) -> bool {
+    leave(work, inputs.old);
+    leave(
+        result,
+        std::num::wrapping_add_u64(inputs.old, work.len() as u64),
+    );
+    let got = in_steps(
+        c.first as usize,
+        c.second as usize,
+        c.third as usize,
+        a,
+        work,
+        result,
+    );
+    let h = hash(result, hash(work, START));
+    if !numbers_agree(got, wanted) {
+        return false;
+    }
+    h == wanted.hash
+}
+
+fn fitted_in_steps(
+    c: Asked,
+    lengths: Lengths,
+    inputs: Inputs,
+    wanted: Wanted,
+    a: &[f64],
+    work: &mut [f64],
+    result: &mut [f64],
+) -> bool {
+    let i = lengths.a as usize;
+    if a.len() < i {
+        return false;
+    }
+    let k = lengths.work as usize;
+    if work.len() < k {
+        return false;
+    }
+    let l = lengths.result as usize;
+    if result.len() < l {
+        return false;
+    }
+    agrees_in_steps(c, inputs, wanted, &a[..i], &mut work[..k], &mut result[..l])
+}
+
 // ---- all of them
 
 fn add(tally: &mut [u64], i: usize) {
@@ -359,6 +447,10 @@ fn turn(
     }
     let good = fitted(c, lengths, inputs, wanted, a, b, work, result);
     note(tally, agreeing, c.function, good);
+    if c.function == 1 {
+        let again = fitted_in_steps(c, lengths, inputs, wanted, a, work, result);
+        note(tally, agreeing, 7, again);
+    }
     true
 }
 
@@ -392,8 +484,8 @@ fn main() {
     let mut b = [0.0f64; 300];
     let mut work = [0.0f64; 131400];
     let mut result = [0.0f64; 131400];
-    let mut tally = [0u64; 7];
-    let mut agreeing = [0u64; 7];
+    let mut tally = [0u64; 8];
+    let mut agreeing = [0u64; 8];
     replay(
         &mut a,
         &mut b,
@@ -408,4 +500,5 @@ fn main() {
     line(b"pseudo_inverse", agreeing[4], tally[4]);
     line(b"qr_q", agreeing[5], tally[5]);
     line(b"row of V^T", agreeing[6], tally[6]);
+    line(b"symmetric_eigen in steps", agreeing[7], tally[7]);
 }

@@ -12,7 +12,7 @@ use lib.IntN.{pos, negsuc}
 use lib.Pow.{pow-pos}
 use lib.ListN.{length, set, length-set}
 use lib.Seq.{getD-set-same, getD-set-other}
-use lib.Ieee.{Float, nan, inf, fin, Format, binary64, prec, emax, low, up, down, round, units, odd, ofBits, mul, lt, le}
+use lib.Ieee.{Float, nan, inf, fin, Format, binary64, prec, emax, low, up, down, round, units, odd, ofBits, mul, lt, le, eq}
 use lib.Ieee.Fits.{up-pos, down-pos, round-is}
 use lib.Ieee.Exact.{HasValue, round-exact}
 use Rattle.grid.specs.Loop.{seek, first, upto, fall, drops}
@@ -118,6 +118,28 @@ nought-le (fin s m e) (inf false) h p = refl
 nought-le (fin s m e) (fin true n d) h p = absurd (true≢false (sym p))
 nought-le (fin s zero e) (fin false n d) h p = rw (zero-mul (up e), zero-mul (down d)) (level-or-below (n * up d * down e))
 nought-le (fin s (suc m) e) (fin false n d) h p = absurd (true≢false (sym h))
+
+-- such a number is at least +0.0, and a zero of either sign equals +0.0
+zero-le : (y : Float) → plus y ≡ true → le (fin false 0 (pos 0)) y ≡ true
+unfolding nought magnitude
+zero-le y p = nought-le (fin false 0 (pos 0)) y refl p
+
+pub plus-le : (y : Float) → plus y ≡ true → le zero64 y ≡ true
+plus-le y p = ap (λ (z : Float). le z y) zero-is ∙ zero-le y p
+
+either-sign : (s : Bool) → (Bool·beq s false || true) ≡ true
+either-sign true = refl
+either-sign false = refl
+
+equals-zero : (x : Float) → nought x ≡ true → eq x (fin false 0 (pos 0)) ≡ true
+unfolding nought eq
+equals-zero nan h = absurd (true≢false (sym h))
+equals-zero (inf s) h = absurd (true≢false (sym h))
+equals-zero (fin s (suc m) e) h = absurd (true≢false (sym h))
+equals-zero (fin s zero e) h = rw (zero-mul (up e), zero-mul (down e)) (either-sign s)
+
+pub nought-eq : (x : Float) → nought x ≡ true → eq x zero64 ≡ true
+nought-eq x h = ap (eq x) zero-is ∙ equals-zero x h
 
 -- a product with +0.0 that is finite is a zero
 nought-value : (x : Float) (s : Bool) (den : ℕ) → 0 < den → HasValue x s 0 den → nought x ≡ true

@@ -32,7 +32,7 @@ drops-long n edition l (suc k) x =
     let w = drops-long n edition l k (spin n edition (l + k) x) in
     record { vectors = w .vectors ∙ rotated-long n (l + k) _ _ (x .1); values = w .values ∙ simp length-set }
 
-body-long : (n edition l m : ℕ) (x : Carried) → Long (x .v) (x .d) (body n edition l m x .v) (body n edition l m x .d)
+pub body-long : (n edition l m : ℕ) (x : Carried) → Long (x .v) (x .d) (body n edition l m x .v) (body n edition l m x .d)
 unfolding transformed spins fall landed shift
 body-long n edition l m x =
     let w = drops-long n edition l (m - l) _ in

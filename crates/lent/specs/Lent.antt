@@ -1,0 +1,42 @@
+-- A run of `symmetric_eigen` on the arrays that it is lent: where it begins, how it stands there, and how it ends. Definitions only.
+-- While it goes on e stands in work, d at the front of the result and v, column by column, behind it.
+use mathlib.Core.Bool.{cond}
+use mathlib.Core.List.{_++_}
+use Prim.Native.Nat.{ℕ, _+_, _*_}
+use lib.ListN.{take, drop}
+use Rattle.grid.specs.Real.{Vec, zeros}
+use Rattle.leaves.specs.Scan.{isBad}
+use Rattle.leaves.specs.declared.Bad.{Bad}
+use Rattle.answers.specs.declared.Answer.{Answer}
+use Rattle.tred.specs.Tred.{tred2}
+use Rattle.pass.specs.declared.Run.{Run}
+use Rattle.ql.specs.Ql.{State, movedUp, finished}
+use Rattle.eigen.specs.Eigen.{columns, mark0, given}
+
+-- ---- where it begins
+
+-- after tred2: what mark 0 saw, and e moved up where that is nothing; of v, d and e as they are lent
+unfoldable pub readied : ℕ → Vec → Vec × Vec × Vec → Bad × Vec × Vec × Vec
+readied n a (v, d, e) =
+    let (v, d, e) = tred2 n (columns n a v, d, e) in
+    cond (isBad (mark0 n v d e)) (mark0 n v d e, v, d, e) (mark0 n v d e, v, d, movedUp n e)
+
+-- the same, with work and result
+unfoldable pub setting : ℕ → Vec → Bad × Vec × Vec
+setting n a =
+    let (b, v, d, e) = readied n a (zeros (n * n), zeros n, zeros n) in
+    cond (isBad b) (b, zeros n, zeros (n + n * n)) (b, e, d ++ v)
+
+-- ---- how it stands there, and how it ends
+
+-- v, d and e as they stand in the arrays
+abbrev pub stateOf : ℕ → Run → Vec → Vec → State
+stateOf n r work result = (r, drop n result, take n result, work)
+
+-- and how they come to stand there: the run, work and result
+abbrev pub laidOut : State → Run × Vec × Vec
+laidOut (r, v, d, e) = (r, e, d ++ v)
+
+-- mark 2 and the sort, or what mark 1 or the limit answers, and the arrays as 01 has them
+unfoldable pub closedUp : ℕ → Run → Vec → Vec → Answer × Vec × Vec
+closedUp n r work result = given n (finished n (stateOf n r work result))

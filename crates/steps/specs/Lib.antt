@@ -1,0 +1,3 @@
+-- Steps: what a start, a step and a finish give. Left: laws.
+pub mod Steps
+pub mod Left
