@@ -2,12 +2,14 @@
  * What a codec does with Crewelmarsh: planes of 16-bit samples, their covariance, its values and vectors,
  * the forward transform, the inverse, and the largest difference to the samples. Values and vectors then go into a
  * transform block, from which a decoder takes them for a tile that has no block of its own. Blocks of tiles that come
- * out of order wait in a store. Then an svd and a pseudo-inverse of a small matrix.
+ * out of order wait in a store. The tiles of the planes are tallied at several limits, as one does who tunes it. Then an
+ * svd and a pseudo-inverse of a small matrix.
  */
 #include <stdio.h>
 #include "crewelmarsh.h"
 
 enum { BANDS = 5, SAMPLES = 1024 };
+enum { SERIES = 8, TILE_SAMPLES = SAMPLES / SERIES };
 enum { ROWS = 3, COLUMNS = 2, SMALLER = 2 };
 
 /* The planes: sample s of band b is at b * SAMPLES + s. */
@@ -135,6 +137,31 @@ static int transform_bands(void)
     difference = largest_difference(&samples[0][0], &decoded[0][0], SAMPLES * BANDS);
     printf("forward and inverse: %d samples, largest difference %.2g\n", SAMPLES * BANDS, difference);
     return difference < 1e-9;
+}
+
+/* Tile t has every band's samples t * TILE_SAMPLES and on. Values and vectors of each, and one report on all of them. */
+static int tally_tiles(size_t limit)
+{
+    static int16_t part[BANDS * TILE_SAMPLES];
+    double matrix[BANDS * BANDS], own_work[BANDS], own_result[BANDS + BANDS * BANDS];
+    struct crewelmarsh_tally tally = CREWELMARSH_TALLY_EMPTY;
+    struct crewelmarsh_answer a;
+    int t, b, s;
+    for (t = 0; t < SERIES; t++) {
+        for (b = 0; b < BANDS; b++)
+            for (s = 0; s < TILE_SAMPLES; s++)
+                part[b * TILE_SAMPLES + s] = planes[b * SAMPLES + t * TILE_SAMPLES + s];
+        a = crewelmarsh_covariance(BANDS, TILE_SAMPLES, part, BANDS * TILE_SAMPLES, matrix, BANDS * BANDS);
+        if (!done("covariance", a))
+            return 0;
+        a = crewelmarsh_symmetric_eigen(BANDS, limit, CREWELMARSH_EDITION_1, matrix, BANDS * BANDS,
+                                        own_work, BANDS, own_result, BANDS + BANDS * BANDS);
+        if (crewelmarsh_tally_add(&tally, a.answer, a.count) != CREWELMARSH_DONE)
+            return 0;
+    }
+    printf("tally at limit %zu: %zu tiles, %zu done, %zu at the limit, %zu passes, %zu at the most, first in tile %zu\n", limit,
+           tally.tiles, tally.counts[CREWELMARSH_DONE], tally.counts[CREWELMARSH_LIMIT_USED], tally.passes, tally.most, tally.first);
+    return tally.tiles == SERIES;
 }
 
 /* A * A+ * A, which is A again. */
@@ -282,9 +309,12 @@ static int keep_tiles(void)
 /* What a refusal looks like: 257 bands, and bands with no sample. */
 static void refuse(void)
 {
+    struct crewelmarsh_tally tally = CREWELMARSH_TALLY_EMPTY;
+    size_t refusal = crewelmarsh_tally_add(&tally, 0, 15361);
     done("symmetric_eigen of 257", crewelmarsh_symmetric_eigen(257, 60, CREWELMARSH_EDITION_1, NULL, 0, NULL, 0, NULL, 0));
     done("covariance of no sample", crewelmarsh_covariance(3, 0, NULL, 0, NULL, 0));
     done("store_drop of a tile that is gone", crewelmarsh_store_drop(1, STORE, 2));
+    printf("tally_add of 15,361 passes: %zu (%s)\n", refusal, crewelmarsh_text(refusal));
 }
 
 int main(void)
@@ -292,6 +322,9 @@ int main(void)
     int good = transform_bands();
     good = pass_as_block() && good;
     good = keep_tiles() && good;
+    good = tally_tiles(3) && good;
+    good = tally_tiles(4) && good;
+    good = tally_tiles(CREWELMARSH_MAX_LIMIT) && good;
     good = invert_small() && good;
     refuse();
     printf("%s\n", good ? "good" : "NOT good");

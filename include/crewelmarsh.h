@@ -34,6 +34,8 @@
  *     crewelmarsh_store_drop        a tile's block gone, its room free
  *     crewelmarsh_store_reset       both owners' blocks gone
  *
+ * crewelmarsh_tally_add adds a tile's answer and passes to the figures of a whole run of tiles (see THE TALLY below).
+ *
  * WHAT IS ASKED OF A CALLER
  *
  * An array is lent as a pointer and a length in numbers (not bytes), a block as a pointer and a length in
@@ -63,7 +65,8 @@
  *
  * Matrix, decomposition and right side are only read.
  *
- * 20 to 24 come from blocks alone, and leave all untouched; so do 30 to 39, which come from the store alone.
+ * 20 to 24 come from blocks alone, and leave all untouched; so do 30 to 35, 37 and 39, which come from
+ * the store alone, and 36 and 38, which come from the tally alone.
  *
  * The tests run in the order of the numbers, but those for 11 and 12 come behind 5 and before 6. So a 6 says that
  * sizes, limit, edition, flags and tolerance were good, and a 7 that the lengths were good too. 8, 9 and 10 come as
@@ -127,7 +130,7 @@
  * patch.
  */
 #define CREWELMARSH_VERSION_MAJOR 4
-#define CREWELMARSH_VERSION_MINOR 1
+#define CREWELMARSH_VERSION_MINOR 2
 #define CREWELMARSH_VERSION_PATCH 0
 #define CREWELMARSH_VERSION /* as a string */ \
     CREWELMARSH_DOTTED(CREWELMARSH_VERSION_MAJOR, CREWELMARSH_VERSION_MINOR, CREWELMARSH_VERSION_PATCH)
@@ -154,6 +157,7 @@
 #define crewelmarsh_store_fetch CREWELMARSH_NAME(store_fetch)
 #define crewelmarsh_store_drop CREWELMARSH_NAME(store_drop)
 #define crewelmarsh_store_reset CREWELMARSH_NAME(store_reset)
+#define crewelmarsh_tally_add CREWELMARSH_NAME(tally_add)
 
 /* The numbers are put in first, then pasted or quoted. */
 #define CREWELMARSH_NAME(name) CREWELMARSH_NUMBERED(crewelmarsh_##name##_abi, CREWELMARSH_VERSION_MAJOR)
@@ -343,6 +347,19 @@ enum {
     CREWELMARSH_STORE_DAMAGED = 39
 };
 
+/* Those of the tally. Each leaves it untouched. */
+enum {
+    /* The tally holds 65,536 tiles or more, or a figure that no series of tiles gives: a count over 65,536, a total over
+       1,006,632,960, a most over 15,360 or a first over 65,535.
+       Report what is there and begin a new tally. A figure out of range says that something else wrote into it, or that it
+       was not empty when the series began. */
+    CREWELMARSH_TALLY_FULL = 36,
+
+    /* The tile's answer is over 15 or its passes are over 15,360. It comes before 36.
+       symmetric_eigen gives neither: pass its `answer` and `count`, not `place` or `index`. */
+    CREWELMARSH_TALLY_TILE = 38
+};
+
 /* A short text for an answer number, for logs. Never NULL. */
 static inline const char *crewelmarsh_text(size_t answer)
 {
@@ -376,6 +393,8 @@ static inline const char *crewelmarsh_text(size_t answer)
     case CREWELMARSH_STORE_QUOTAS: return "the quotas exceed the store's buffer";
     case CREWELMARSH_STORE_BUFFER: return "the store's buffer is over 65,536 bytes";
     case CREWELMARSH_STORE_DAMAGED: return "the store's arrays are not what its calls left";
+    case CREWELMARSH_TALLY_FULL: return "the tally is full, or not what its calls left";
+    case CREWELMARSH_TALLY_TILE: return "a tile's answer is over 15 or its passes are over 15,360";
     default: return "no answer of crewelmarsh";
     }
 }
@@ -1033,6 +1052,37 @@ struct crewelmarsh_answer crewelmarsh_store_reset(
     size_t *list, size_t list_len,
     const uint16_t *tiles, size_t tiles_len,
     const unsigned char *bytes, size_t bytes_len);
+
+/*
+ * THE TALLY
+ *
+ * The figures of a run of tiles, for tuning the limit: a tile is the answer and the count of a call of symmetric_eigen.
+ * After any series of tiles added to an empty tally each figure is the one counted from the list of those that were not
+ * refused (T32 of docs/PROMISES.md). The caller keeps the tally, in a struct of 20 numbers that may be copied, read and
+ * printed at any time.
+ */
+struct crewelmarsh_tally {
+    size_t tiles;      /* how many were added, up to 65,536 */
+    size_t counts[16]; /* how many with each answer, 0 to 15 */
+    size_t passes;     /* the passes of all */
+    size_t most;       /* the most passes of one */
+    size_t first;      /* the first tile that had so many, counted from 0. 0, as most is, where there is none */
+};
+
+/* The empty tally: struct crewelmarsh_tally tally = CREWELMARSH_TALLY_EMPTY; */
+#define CREWELMARSH_TALLY_EMPTY {0, {0}, 0, 0, 0}
+
+/*
+ * Adds a tile to the tally.
+ *
+ * tally      aligned for size_t, and not NULL. It may hold anything
+ * answer     0 to 15
+ * passes     0 to 15,360, which is 256 values of 60 passes
+ *
+ * What comes back is 0, 38 or 36, tested in this order. 38 and 36 leave the tally untouched. From an empty tally 36 comes
+ * for the tile behind the 65,536th and for no other.
+ */
+size_t crewelmarsh_tally_add(struct crewelmarsh_tally *tally, size_t answer, size_t passes);
 
 #ifdef __cplusplus
 }

@@ -1,8 +1,8 @@
 #!/bin/sh
 # Wrong versions of the patched functions, each behind the C entries in the archive's place. The committed list and the C tests
 # (tests/*.c) must each find every one: a version that agrees with all cases of the list, or that passes all of the tests, fails this
-# script. The patched functions as they are come first, and must pass both. Those of blocks, of the store and of what a step refuses are for the C tests alone: the list has none.
-# Each line of the table is a sed command on src/patched.rs (for hypot on src/hypot.rs, for blocks on src/block.rs, for the store on src/store.rs, for steps on src/steps.rs); it must change the text.
+# script. The patched functions as they are come first, and must pass both. Those of blocks, of the store, of the tally and of what a step refuses are for the C tests alone: the list has none.
+# Each line of the table is a sed command on src/patched.rs (for hypot on src/hypot.rs, for blocks on src/block.rs, for the store on src/store.rs, for steps on src/steps.rs, for the tally on src/tally.rs); it must change the text.
 # Needs rustc, a C and a C++ compiler: RUSTC, CC, CXX.
 set -e
 cd "$(dirname "$0")"
@@ -32,14 +32,14 @@ tested() { timeout 60 $out/boundary >$out/tests 2>&1 && [ "$(tail -n 1 $out/test
 told() { tail -n 1 "$2" | grep "$1" | sed 's/.*, //' | grep . || echo 'no count'; }
 
 left=0
-cp src/entries.rs src/block.rs src/store.rs src/hypot.rs src/patched.rs src/steps.rs $out/
+cp src/entries.rs src/block.rs src/store.rs src/tally.rs src/hypot.rs src/patched.rs src/steps.rs $out/
 build
 listed || { echo "the patched functions as they are: the list differs; $(tail -n 1 $out/said)"; left=1; }
 tested || { echo "the patched functions as they are: the C tests fail; $(tail -n 1 $out/tests)"; left=1; }
 while IFS='	' read -r name edit; do
-    cp src/entries.rs src/block.rs src/store.rs src/hypot.rs src/patched.rs src/steps.rs $out/
+    cp src/entries.rs src/block.rs src/store.rs src/tally.rs src/hypot.rs src/patched.rs src/steps.rs $out/
     text=patched.rs
-    case $name in hypot*) text=hypot.rs ;; block*) text=block.rs ;; store*) text=store.rs ;; step*) text=steps.rs ;; esac
+    case $name in hypot*) text=hypot.rs ;; block*) text=block.rs ;; store*) text=store.rs ;; step*) text=steps.rs ;; tally*) text=tally.rs ;; esac
     sed "$edit" src/$text >$out/$text
     if cmp -s src/$text $out/$text; then
         echo "$name: the edit changes nothing"
@@ -50,6 +50,7 @@ while IFS='	' read -r name edit; do
     if [ $text = block.rs ]; then by_list='has no blocks'
     elif [ $text = store.rs ]; then by_list='has no store'
     elif [ "${name#step refusal}" != "$name" ]; then by_list='has no damaged run'
+    elif [ $text = tally.rs ]; then by_list='has no tally'
     elif listed; then by_list='NOT FOUND'; left=1; else by_list=$(told ', .* differ' $out/said); fi
     if tested; then by_tests='NOT FOUND'; left=1; else by_tests=$(told 'checks, .* failed' $out/tests); fi
     echo "$name: list: $by_list; C tests: $by_tests"
@@ -178,5 +179,20 @@ step refusal not of m	s/ && q.m < q.n / /
 step refusal not of the count	s/ && q.count <= q.l \* q.limit + q.passes//
 step refusal not of the index	s/ && q.index == 0//
 step refusal looks at ended runs	/^pub fn step/,/^}/s/if q.stop != 0 {/if q.stop > 1 {/
+tally last of equals leads	s/if passes > tally.most {/if passes >= tally.most {/
+tally first counted from 1	s/(passes, tally.tiles);/(passes, tally.tiles + 1);/
+tally 36 before 38	s/^    if answer >= /    if !tally.has_room() { return 36; }\n    if answer >= /
+tally refused tile counted	s/        return 38;/        tally.tiles += 1;\n        return 38;/
+tally total not updated	s/    tally.passes += passes;//
+tally a tile too many	s/(self.tiles, TILES - 1)/(self.tiles, TILES)/
+tally a tile too few	s/(self.tiles, TILES - 1)/(self.tiles, TILES - 2)/
+tally answer 15 refused	s/answer >= tally.counts.len()/answer >= 15/
+tally passes of 15,360 refused	s/|| passes > PASSES/|| passes >= PASSES/
+tally passes of 15,361 taken	s/|| passes > PASSES/|| passes > PASSES + 1/
+tally a count not looked at	s/chain(self.counts.map(|count| (count, TILES)))/chain(self.counts[..15].iter().map(|\&count| (count, TILES)))/
+tally count of 65,536 refused	s/(count, TILES)/(count, TILES - 1)/
+tally total not looked at	s/ (self.passes, TILES \* PASSES),//
+tally most not looked at	s/ (self.most, PASSES),//
+tally first not looked at	s/, (self.first, TILES - 1)\]/]/
 TABLE
 exit $left

@@ -66,7 +66,7 @@ cases: $(ORACLE)/oracle
 	$(ORACLE)/oracle blocks-wanted >crates/blocks/stdout
 
 # The patched functions behind the C entries, for trying a test or a driver: one object, no other name visible.
-$(ORACLE)/libcrewelmarsh_oracle.a: oracle/src/entries.rs oracle/src/block.rs oracle/src/store.rs oracle/src/patched.rs oracle/src/steps.rs oracle/src/hypot.rs | has-rustc
+$(ORACLE)/libcrewelmarsh_oracle.a: oracle/src/entries.rs oracle/src/block.rs oracle/src/store.rs oracle/src/tally.rs oracle/src/patched.rs oracle/src/steps.rs oracle/src/hypot.rs | has-rustc
 	mkdir -p $(ORACLE)
 	$(ORACLE_RUSTC) -C panic=abort --crate-type staticlib --crate-name crewelmarsh_oracle $< -o $(ORACLE)/all.a
 	ld -r --gc-sections $(ORACLE_ENTRIES:%=-u crewelmarsh_%) -o $(ORACLE)/one.o $(ORACLE)/all.a

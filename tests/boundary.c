@@ -33,5 +33,7 @@ int main(void)
     test_store();
     group("eigen in steps");
     test_steps();
+    group("tally");
+    test_tally();
     return report();
 }

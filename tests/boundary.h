@@ -94,5 +94,6 @@ void test_blocks(void);
 void test_covariance(void);
 void test_store(void);
 void test_steps(void);
+void test_tally(void);
 
 #endif

@@ -45,7 +45,7 @@ SAME(covariance_matrix, CREWELMARSH_COVARIANCE_MATRIX_LEN(3), 9);
 #error "the version is no number"
 #endif
 
-/* "4.1.0", of one digit each until one has more. */
+/* "4.2.0", of one digit each until one has more. */
 static int version_right(void)
 {
     const char *v = CREWELMARSH_VERSION;
@@ -85,17 +85,28 @@ static int store_constants_right(void)
            CREWELMARSH_STORE_BYTES_MOST == 65536;
 }
 
+/* Those of the tally, whose struct is 20 numbers in the order of the report. */
+static int tally_right(void)
+{
+    struct crewelmarsh_tally tally = CREWELMARSH_TALLY_EMPTY;
+    const size_t *numbers = &tally.tiles;
+    return CREWELMARSH_TALLY_FULL == 36 && CREWELMARSH_TALLY_TILE == 38 && sizeof tally == 20 * sizeof(size_t) &&
+           numbers + 1 == tally.counts && numbers + 17 == &tally.passes && numbers + 18 == &tally.most && numbers + 19 == &tally.first &&
+           crewelmarsh_tally_add(&tally, 15, 15360) == 0 && crewelmarsh_tally_add(&tally, 16, 0) == 38 && tally.tiles == 1 &&
+           tally.counts[15] == 1 && tally.passes == 15360 && tally.most == 15360 && tally.first == 0;
+}
+
 /* The text of each number differs from the others, and from the one that all other numbers have. */
 static int texts_differ(void)
 {
-    static const size_t numbers[] = {0, 1, 2, 3, 4, 5, 6, 7, 8, 9, 10, 11, 12, 13, 20, 21, 22, 23, 24, 25, 26, 30, 31, 32, 33, 34, 35, 37, 39, (size_t)-1};
+    static const size_t numbers[] = {0, 1, 2, 3, 4, 5, 6, 7, 8, 9, 10, 11, 12, 13, 20, 21, 22, 23, 24, 25, 26, 30, 31, 32, 33, 34, 35, 36, 37, 38, 39, (size_t)-1};
     size_t a, b;
     for (a = 0; a < sizeof numbers / sizeof numbers[0]; a++)
         for (b = 0; b < a; b++)
             if (strcmp(crewelmarsh_text(numbers[a]), crewelmarsh_text(numbers[b])) == 0)
                 return 0;
     return strcmp(crewelmarsh_text(14), crewelmarsh_text((size_t)-1)) == 0 && strcmp(crewelmarsh_text(19), crewelmarsh_text(27)) == 0 &&
-           strcmp(crewelmarsh_text(36), crewelmarsh_text(40)) == 0;
+           strcmp(crewelmarsh_text(29), crewelmarsh_text(40)) == 0;
 }
 
 static int square_lengths_right(size_t n)
@@ -258,6 +269,7 @@ void TEST_HEADER(void (*check)(int good, const char *what))
     check(is_answer(crewelmarsh_covariance(0, 1, NULL, 0, NULL, 0), 0, 0, 0), "covariance of no band");
     check(store_constants_right(), "constants of the store");
     check(store_links(), "the store");
+    check(tally_right(), "the tally");
     check(rows_right(), "rows of V^T");
     check(empty_rows_right(), "empty rows of V^T");
     check(entries_link(), "entries");

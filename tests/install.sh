@@ -119,6 +119,7 @@ call store_length '(0, NULL, 0, NULL, 0, NULL, 0, 1)' count
 call store_fetch '(0, NULL, 0, NULL, 0, NULL, 0, 1, NULL, 0)' answer
 call store_drop '(0, NULL, 0, NULL, 0, NULL, 0, 1)' answer
 call store_reset '(NULL, 0, NULL, 0, NULL, 0)' answer
+call tally_add '(NULL, 0, 0)'
 
 warn='-Wall -Wextra -Wpedantic -Werror'
 a=$scratch/prefix/lib/libcrewelmarsh.a

@@ -30,8 +30,8 @@ VERSION := $(MAJOR).$(call said,MINOR).$(call said,PATCH)
 ENTRIES := $(shell sed -n 's/^.define \(crewelmarsh_[a-z_]*\) CREWELMARSH_NAME.*/\1_abi$(MAJOR)/p' include/crewelmarsh.h)
 
 # How many checks the boundary's test makes.
-BOUNDARY_CHECKS := 147044
-BOUNDARY_PARTS := boundary check eigen svd row solve qr marks sizes numbers block covariance store steps header header_cpp
+BOUNDARY_CHECKS := 167713
+BOUNDARY_PARTS := boundary check eigen svd row solve qr marks sizes numbers block covariance store steps tally header header_cpp
 BOUNDARY_OBJECTS := $(BOUNDARY_PARTS:%=build/tests/%.o)
 
 TARGET_FLAGS := --target=x86_64-unknown-linux-gnu -march=x86-64 --no-default-config \

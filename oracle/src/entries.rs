@@ -11,6 +11,7 @@ mod patched;
 mod store;
 #[allow(dead_code)]
 mod steps;
+mod tally;
 
 use patched::Answer;
 use steps::Run;
@@ -400,4 +401,11 @@ pub unsafe extern "C" fn crewelmarsh_store_reset_abi4(
     bytes_len: usize,
 ) -> Answer {
     unsafe { refused(store::reset(of_mut(list, list_len), of(tiles, tiles_len), of(bytes, bytes_len))) }
+}
+
+// ---------------------------------------------------------------- the tally
+
+#[unsafe(no_mangle)]
+pub unsafe extern "C" fn crewelmarsh_tally_add_abi4(tally: *mut tally::Tally, answer: usize, passes: usize) -> usize {
+    unsafe { tally::add(&mut *tally, answer, passes) }
 }

@@ -13,9 +13,12 @@ ghost use Rattle.blockread.specs.Lookup.{found, copied};
 ghost use Rattle.blockwrite.specs.Writing.{given, doubles, lengthOf, written};
 ghost use Rattle.covariance.specs.Covariance.{covariance};
 ghost use Rattle.ownermap.specs.Owners.{setUp2, reset, putFor, lengthFor, fetchFor, dropFor};
+ghost use Rattle.figures.specs.Tallies.{outcome};
 use answers::Answer;
 use blockread::Found;
 use blockread::Shape;
+use figures::Reply;
+use figures::Tally;
 use row::Extent;
 use steps::EigenRun;
 
@@ -316,4 +319,19 @@ pub extern "C" fn crewelmarsh_store_drop_abi4(
     ensures { λ r. ⌜ (r, now (list .exit), now (tiles .exit), now (bytes .exit)) ≡ dropFor owner (now (list .entry)) (now (tiles .entry)) (now (bytes .entry)) tile ⌝ }
 {
     owners::drop_tile(owner, list, tiles, bytes, tile)
+}
+
+// ---- the tally
+
+#[no_mangle]
+pub extern "C" fn crewelmarsh_tally_add_abi4(
+    tally: &mut Tally,
+    answer: usize,
+    passes: usize,
+) -> usize
+    ensures { λ r. ⌜ record { refusal = r; tally = now (tally .exit) } ≡ outcome (now (tally .entry)) answer passes ⌝ }
+{
+    let r = tally::added(*tally, answer, passes);
+    *tally = r.tally;
+    r.refusal
 }

@@ -9,7 +9,7 @@ use octets::bits;
 use text::separator;
 
 // A store that minds the end.
-fn put(out: &mut [u8], at: usize, b: u8)
+pub fn put(out: &mut [u8], at: usize, b: u8)
     ensures { λ _. ⌜ now (out .exit) ≡ set (now (out .entry)) at b ⌝ }
 {
     if at < out.len() {
@@ -53,8 +53,8 @@ fn places(n: usize) -> usize
 }
 
 // The decimal number n and the byte behind it, from `at` on; the place behind both.
-fn put_number(out: &mut [u8], at: usize, n: usize, end: u8) -> usize
-    requires { ⌜ at ≤ 63 ⌝ }
+pub fn put_number(out: &mut [u8], at: usize, n: usize, end: u8) -> usize
+    requires { ⌜ at ≤ 1000 ⌝ }
     ensures { λ r. ⌜ (r, now (out .exit)) ≡ append (at, now (out .entry)) (number n end) ⌝ }
 {
     let k = places(n);

@@ -1,0 +1,2 @@
+-- A series of tiles and tallies that are refused, computed.
+pub mod Worked

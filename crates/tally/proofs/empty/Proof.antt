@@ -1,0 +1,13 @@
+-- Generated from the answers file beside it by tools/prove/prove.py: edit that.
+-- `tally::empty` meets its contract.
+use mathlib.Core.Path.{refl}
+use Rattle.figures.specs.Tallies.{none, zeros}
+use Rattle.tally.proofs.empty.Statement.{statement}
+use Rattle.tally.proofs.empty.Tie as tie
+
+returns : tie.Need-returns
+unfolding none zeros
+returns c = refl
+
+pub empty-spec : {M : Type 1} → statement M
+empty-spec = tie.close (tie.spec returns)

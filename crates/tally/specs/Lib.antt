@@ -1,0 +1,2 @@
+-- The outcomes as the code comes to them.
+pub mod OutcomeLaws

@@ -1,0 +1,50 @@
+// Answers the texts of data/ in turn, each under its file's name.
+use libc::STDOUT_FILENO;
+
+fn file(name: &[u8]) {
+    io::write_all(STDOUT_FILENO, b"-- ");
+    io::write_all(STDOUT_FILENO, name);
+    io::write_all(STDOUT_FILENO, b"\n");
+    let fd = os::open_read(name);
+    if fd < 0 {
+        os::fail(name);
+        return;
+    }
+    tileio::answer(fd, STDOUT_FILENO);
+    libc::close(fd);
+}
+
+fn whole() {
+    file(b"empty");
+    file(b"one");
+    file(b"all_answers");
+    file(b"most_is_first");
+    file(b"pieces");
+}
+
+fn refused() {
+    file(b"answer_16");
+    file(b"passes_15361");
+    file(b"number_2_to_64");
+}
+
+fn other() {
+    file(b"leading_zero");
+    file(b"passes_leading_zero");
+    file(b"two_spaces");
+    file(b"space_before");
+    file(b"space_behind");
+    file(b"carriage_return");
+    file(b"no_passes");
+    file(b"three_numbers");
+    file(b"empty_line");
+    file(b"sign");
+    file(b"no_last_line_feed");
+    file(b"zero_byte");
+}
+
+fn main() {
+    whole();
+    refused();
+    other();
+}
