@@ -1,11 +1,11 @@
 -- Generated from the answers file beside it by tools/prove/prove.py: edit that.
--- `replay::give` meets its contract. The index stays within the cells, whose number stays.
+-- `cases::give` meets its contract. The index stays within the cells, whose number stays.
 use mathlib.Core.Path.{_≡_, refl}
 use Prim.Native.Nat.{_-_, _≤_}
 use native.Mathlib.Omega.{arith}
 use lib.ListN.{length}
-use Rattle.replay.proofs.give.Statement.{statement}
-use Rattle.replay.proofs.give.Tie as tie
+use Rattle.cases.proofs.give.Statement.{statement}
+use Rattle.cases.proofs.give.Tie as tie
 
 abbrev Inv-loop : tie.InvT-loop
 Inv-loop cells₀ kind seed scale x₀ k₀ k-end cells x k = (k ≤ length cells₀) × (length cells ≡ length cells₀)

@@ -1,10 +1,10 @@
 -- Generated from the answers file beside it by tools/prove/prove.py: edit that.
--- `replay::fitted` meets its contract. Each part ends within its array, as the tests say.
+-- `caseruns::fitted` meets its contract. Each part ends within its array, as the tests say.
 use mathlib.Core.Path.{sym}
 use borrow.Author.Needs.{needs}
 use lib.Seq.{length-take-le}
-use Rattle.replay.proofs.fitted.Statement.{statement}
-use Rattle.replay.proofs.fitted.Tie as tie
+use Rattle.caseruns.proofs.fitted.Statement.{statement}
+use Rattle.caseruns.proofs.fitted.Tie as tie
 
 returns : tie.Need-returns
 returns c = search needs

@@ -1,5 +1,5 @@
 -- Generated from the answers file beside it by tools/prove/prove.py: edit that.
--- `replay::number` meets its contract. Bits that are not above those of infinity are no NaN's.
+-- `cases::number` meets its contract. Bits that are not above those of infinity are no NaN's.
 use borrow.Author.Needs.{needs}
 use mathlib.Core.Path.{_≡_, sym, subst, _∙_}
 use Prim.Native.Nat.{_%_, _^_}
@@ -8,8 +8,8 @@ use borrow.Author.Tests.{le-ltb}
 use lib.Dec.{T}
 use lib.Ieee.{binary64}
 use lib.Ieee.Bits.{nanBits-above}
-use Rattle.replay.proofs.number.Statement.{statement}
-use Rattle.replay.proofs.number.Tie as tie
+use Rattle.cases.proofs.number.Statement.{statement}
+use Rattle.cases.proofs.number.Tie as tie
 
 float-from-bits-result : tie.Need-float-from-bits-result
 float-from-bits-result c = subst (λ (t : Bool). T (not t)) (sym (nanBits-above binary64 (c .before .args .w) ∙ le-ltb 0x7ff0_0000_0000_0000 (c .before .args .w % 2 ^ 63) (c .if1 .taken))) tt

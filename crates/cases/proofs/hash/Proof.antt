@@ -1,11 +1,11 @@
 -- Generated from the answers file beside it by tools/prove/prove.py: edit that.
--- `replay::hash` meets its contract. The index stays within the cells.
+-- `cases::hash` meets its contract. The index stays within the cells.
 use Prim.Native.Nat.{_-_, _≤_}
 use native.Mathlib.Omega.{arith}
 use borrow.Author.Needs.{needs}
 use lib.ListN.{length}
-use Rattle.replay.proofs.hash.Statement.{statement}
-use Rattle.replay.proofs.hash.Tie as tie
+use Rattle.cases.proofs.hash.Statement.{statement}
+use Rattle.cases.proofs.hash.Tie as tie
 
 abbrev Inv-loop : tie.InvT-loop
 Inv-loop cells so-far h₀ k₀ k-end h k = k ≤ length cells

@@ -1,11 +1,11 @@
--- `replay::word` meets its contract. What equals itself is no NaN.
+-- `cases::word` meets its contract. What equals itself is no NaN.
 use mathlib.Core.Path.{_≡_, sym}
 use mathlib.Core.Bool.{true, not, true≢false}
 use lib.Dec.{T}
 use lib.Ieee.{Float, nan, inf, fin, eq, isNan}
 use borrow.Author.Needs.{needs}
-use Rattle.replay.proofs.word.Statement.{statement}
-use Rattle.replay.proofs.word.Tie as tie
+use Rattle.cases.proofs.word.Statement.{statement}
+use Rattle.cases.proofs.word.Tie as tie
 
 equals-itself : (y : Float) → eq y y ≡ true → T (not (isNan y))
 unfolding eq isNan

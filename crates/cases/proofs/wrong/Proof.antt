@@ -1,10 +1,10 @@
 -- Generated from the answers file beside it by tools/prove/prove.py: edit that.
--- `replay::wrong` meets its contract. The words that are left are the measure.
+-- `cases::wrong` meets its contract. The words that are left are the measure.
 use Prim.Native.Nat.{_-_, _≤_}
 use native.Mathlib.Omega.{arith}
 use borrow.Author.Needs.{needs}
-use Rattle.replay.proofs.wrong.Statement.{statement}
-use Rattle.replay.proofs.wrong.Tie as tie
+use Rattle.cases.proofs.wrong.Statement.{statement}
+use Rattle.cases.proofs.wrong.Tie as tie
 
 abbrev Inv-loop : tie.InvT-loop
 Inv-loop cells words count₀ k₀ k-end count k = k ≤ words

@@ -1,11 +1,11 @@
 -- Generated from the answers file beside it by tools/prove/prove.py: edit that.
--- `replay::leave` meets its contract. The index stays within the cells, whose number stays.
+-- `cases::leave` meets its contract. The index stays within the cells, whose number stays.
 use mathlib.Core.Path.{_≡_, refl}
 use Prim.Native.Nat.{_-_, _≤_}
 use native.Mathlib.Omega.{arith}
 use lib.ListN.{length}
-use Rattle.replay.proofs.leave.Statement.{statement}
-use Rattle.replay.proofs.leave.Tie as tie
+use Rattle.cases.proofs.leave.Statement.{statement}
+use Rattle.cases.proofs.leave.Tie as tie
 
 abbrev Inv-loop : tie.InvT-loop
 Inv-loop cells₀ first w₀ k₀ k-end cells w k = (k ≤ length cells₀) × (length cells ≡ length cells₀)
