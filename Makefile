@@ -6,6 +6,7 @@
 # make install       archive, shared library, header and the rest under PREFIX; make release packs them (tools/install.mk)
 # make proofs-fresh  whether each generated Proof.antt is what tools/prove/prove.py writes today
 # make compare       fresh random cases against the Rust oracle: SEED=.. CASES=..
+# make gain         random matrices times powers of two, every operation of document 000's svd watched: SEED=.. CASES=..
 # make compare-covariance
 #                    the covariance through the archive against 128-bit integers: SEED=..
 # make bench         document 000's Rust and the archive in one run

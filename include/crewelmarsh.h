@@ -105,6 +105,13 @@
  * two first, and the values by its inverse afterwards; the vectors stay. The same can befall a part of a
  * matrix that is so small by itself, beside numbers near 1: set to 0 what is that far below the largest.
  *
+ * What svd promises: every number of a matrix may be multiplied by 2^k, k above or below 0, sizes, flags, limit and
+ * lengths being equal. If in both calls each number given or computed is zero, or finite and above 2^-1022 in
+ * magnitude, and no product or quotient of nonzero numbers comes out zero, then all four numbers of the answer
+ * agree; on 0 U and V^T are the same bits and each value is multiplied by 2^k; on any other answer both results are
+ * all +0.0, or both untouched. This is proved. Numbers from 2^-250 to 2^250 mostly stay in that range; a call
+ * doesn't say whether they did. Of symmetric_eigen the same was tried and not proved.
+ *
  * WHICH BITS
  *
  * Every outcome is defined to the last bit, in the floating-point state that a C program starts with: round

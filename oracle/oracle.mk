@@ -13,7 +13,7 @@ ORACLE_SOURCES := $(wildcard oracle/src/*.rs)
 ORACLE_RUSTC := $(RUSTC) --edition 2024 -C opt-level=3
 ORACLE_ENTRIES := $(ENTRIES:crewelmarsh_%=%)
 
-.PHONY: verbatim oracle oracle-check oracle-mutants oracle-standin findings cases compare compare-hypot bench bench-blocks bench-root bench-steps has-rustc
+.PHONY: verbatim oracle oracle-check oracle-mutants oracle-standin findings cases compare compare-hypot gain bench bench-blocks bench-root bench-steps has-rustc
 
 has-rustc:
 	@command -v $(RUSTC) >/dev/null || { echo "the oracle is Rust, and there is no $(RUSTC) here"; exit 1; }
@@ -109,6 +109,29 @@ compare-hypot: $(ORACLE)/oracle target/bin/vectors
 	$(ORACLE)/oracle hypots-wanted $(SEED) $(PAIRS) | cmp - $(ORACLE)/hypots
 	@echo "hypot, edition 2: $$(wc -l <$(ORACLE)/hypots) pairs, none differs"
 	$(ORACLE)/oracle hypots-platform $(SEED) $(PAIRS)
+
+# Gain and svd: document 000's svd and the patched one over a number that watches every operation. The text is theirs; f64 and its literals are replaced, and what is not run is left out.
+WATCH := -e '/^ *\/\/[!\/]/d' -e 's/\([0-9][0-9]*\.[0-9][0-9]*\)\(_f64\)*/literal(\1)/g' -e 's/f64/Watched/g'
+WATCHED := $(ORACLE)/watched_ndarray.rs $(ORACLE)/watched_document.rs $(ORACLE)/watched_patched.rs
+
+$(ORACLE)/watched_ndarray.rs: oracle/src/ndarray.rs oracle/oracle.mk
+	@mkdir -p $(ORACLE)
+	sed $(WATCH) $< >$@
+
+$(ORACLE)/watched_document.rs: oracle/src/document_000.rs oracle/oracle.mk
+	@mkdir -p $(ORACLE)
+	sed -n -e '/struct Svd {/,/^}/p' -e '/ fn svd(/,/^}/p' -e '/^fn jacobi_svd_tall(/,/^}/p' -e '/^fn sort_svd_descending(/,/^}/p' $< | sed $(WATCH) >$@
+
+$(ORACLE)/watched_patched.rs: oracle/src/patched.rs oracle/oracle.mk
+	@mkdir -p $(ORACLE)
+	sed -e '/^use /d' -e '/^\/\/ -* solve, pseudo_inverse$$/,$$d' $< | sed $(WATCH) >$@
+
+$(ORACLE)/gain: oracle/gain.rs $(ORACLE)/liboracle.rlib $(WATCHED)
+	WATCHED_NDARRAY=$(CURDIR)/$(ORACLE)/watched_ndarray.rs WATCHED_DOCUMENT=$(CURDIR)/$(ORACLE)/watched_document.rs WATCHED_PATCHED=$(CURDIR)/$(ORACLE)/watched_patched.rs \
+	  $(ORACLE_RUSTC) --extern oracle=$(ORACLE)/liboracle.rlib $< -o $@
+
+gain: $(ORACLE)/gain
+	$(ORACLE)/gain $(SEED) $(CASES) $(LARGEST)
 
 # Document 000 and the archive in one program and one run; the table is docs/BENCHMARKS.md's. Elsewhere than on x86-64 the
 # archive's module is compiled for the machine first, since a time under an emulator says nothing.

@@ -63,7 +63,7 @@ nearest-up t a b h = go (compare a b) (cmp a b)
 pub closest-of : (t r b : ℕ) → r < b → closest (t * b + r) b ≡ nearest t (compare (r * 2) b)
 closest-of t r b h = ap (λ (x : ℕ). nearest x (compare ((t * b + r) % b * 2) b)) (digits-div t h) ∙ ap (λ (x : ℕ). nearest t (compare (x * 2) b)) (digits-mod t h)
 
-middle : (s H S : ℕ) → s * H ≤ S → S < s * H + H → closest (2 * S + 1) (4 * H) ≡ (s + 1) / 2
+pub middle : (s H S : ℕ) → s * H ≤ S → S < s * H + H → closest (2 * S + 1) (4 * H) ≡ (s + 1) / 2
 middle s H S lo hi = go (s % 2) refl
   where
     two-two : (H : ℕ) → 4 * H ≡ 2 * (2 * H)

@@ -1,0 +1,46 @@
+-- `gain-keeps-basis` has something to say: of the matrix (1 2 3 / 4 5 6), of 8 times it and of a thirty-second of it what it asks is computed, and the answer is 0. Laws only.
+use mathlib.Core.Path.{_≡_, refl, sym, subst}
+use mathlib.Core.Bool.{true, false}
+use lib.Dec.{T}
+use lib.IntN.{ℤ, pos, negsuc}
+use Rattle.grid.specs.Real.{Vec, zeros}
+use Rattle.answers.specs.Answers.{least, decompositionLength}
+use Rattle.sorted.specs.Result.{longest, workLength}
+use Rattle.plain.specs.Exact.{begun}
+use Rattle.gain.specs.Scale.{fine}
+use Rattle.basis.specs.Fine.{SvdFine}
+use Rattle.basis.specs.Gain.{gain-keeps-basis}
+use Rattle.gaincases.specs.TestLaws.{test-right}
+use Rattle.gaincases.specs.Cases.{tested, outcome, matrix, gained, Keeps}
+
+matrix-passes : tested fine false 2 3 matrix ≡ true
+unfolding tested matrix
+matrix-passes = refl
+
+eightfold-passes : tested fine false 2 3 (gained (pos 3)) ≡ true
+unfolding tested gained
+eightfold-passes = refl
+
+small-passes : tested fine false 2 3 (gained (negsuc 4)) ≡ true
+unfolding tested gained
+small-passes = refl
+
+pub done : outcome 2 3 matrix .0 .answer ≡ 0
+unfolding outcome matrix
+done = refl
+
+asked : (a : Vec) → tested fine false 2 3 a ≡ true → SvdFine 2 3 1 1 60 a (zeros (workLength 2 3)) (zeros (decompositionLength 2 3 1 1))
+unfolding tested
+asked a e taken = test-right (longest 2 3) (least 2 3) 60 (begun 2 3 a) (subst T (sym e) tt)
+
+keeps : (k : ℤ) → tested fine false 2 3 (gained k) ≡ true → Keeps k
+unfolding outcome gained
+keeps k e = gain-keeps-basis k 2 3 1 1 60 matrix _ _ _ _ _ _ refl refl refl refl (asked matrix matrix-passes) (asked (gained k) e)
+
+-- 8 times the matrix has the same U and V^T, and 8 times the values
+pub worked-3 : Keeps (pos 3)
+worked-3 = keeps (pos 3) eightfold-passes
+
+-- and a thirty-second of it the same, and a thirty-second of the values
+pub worked-minus-5 : Keeps (negsuc 4)
+worked-minus-5 = keeps (negsuc 4) small-passes
