@@ -12,6 +12,9 @@
  * crewelmarsh_eigen_start, _step and _finish are the first one in pieces, one QL pass at a time, for a program that has
  * other work waiting (see ONE PASS AT A TIME below).
  *
+ * crewelmarsh_lanczos gives the leading values and vectors alone, for a codec that keeps a few components of many bands: at 8
+ * of 256 a small part of the time.
+ *
  * A sixth, crewelmarsh_vt_row_extent, says where in an svd's result a row of V^T stands; crewelmarsh_vt_row
  * makes a pointer of it.
  *
@@ -55,13 +58,13 @@
  *
  * `answer` says what happened, `place` where, `index` which number, `count` how much work was done. Test
  * `answer` after every call: only 0 leaves a result. The same call gives the same bits, whatever work, result and
- * answer held before (T2 and T14 of docs/PROMISES.md). None of the five writes an infinity or a NaN (T11).
+ * answer held before (T2, T14 and T34 of docs/PROMISES.md). None of the five, nor lanczos, writes an infinity or a NaN (T11, T36).
  *
  *     answer   arrays afterwards
  *     0        result or answer full, work all +0.0
  *     1 to 6   all untouched
  *     7 to 10  result or answer, and work, all +0.0
- *     11 to 13 all untouched
+ *     11 to 15 all untouched
  *
  * Matrix, decomposition and right side are only read.
  *
@@ -70,11 +73,12 @@
  *
  * The tests run in the order of the numbers, but those for 11 and 12 come behind 5 and before 6. So a 6 says that
  * sizes, limit, edition, flags and tolerance were good, and a 7 that the lengths were good too. 8, 9 and 10 come as
- * the run meets them. 13 is of a run in steps alone, and comes behind 6.
+ * the run meets them. 13 is of a run in steps alone, and comes behind 6; 14 and 15 are of lanczos alone, and come behind 12 and
+ * before 6.
  *
  * EDITIONS
  *
- * symmetric_eigen takes lengths of pairs of numbers, hypot(x, y), the root of x * x + y * y, and there are two rules
+ * symmetric_eigen, and lanczos with it, takes lengths of pairs of numbers, hypot(x, y), the root of x * x + y * y, and there are two rules
  * for it. Its edition says which, and it is part of the definition: the same call in the other edition gives values
  * and vectors that differ in their last bits, and now and then another count or answer.
  *
@@ -137,7 +141,7 @@
  * patch.
  */
 #define CREWELMARSH_VERSION_MAJOR 4
-#define CREWELMARSH_VERSION_MINOR 2
+#define CREWELMARSH_VERSION_MINOR 3
 #define CREWELMARSH_VERSION_PATCH 0
 #define CREWELMARSH_VERSION /* as a string */ \
     CREWELMARSH_DOTTED(CREWELMARSH_VERSION_MAJOR, CREWELMARSH_VERSION_MINOR, CREWELMARSH_VERSION_PATCH)
@@ -147,6 +151,7 @@
 #define crewelmarsh_eigen_start CREWELMARSH_NAME(eigen_start)
 #define crewelmarsh_eigen_step CREWELMARSH_NAME(eigen_step)
 #define crewelmarsh_eigen_finish CREWELMARSH_NAME(eigen_finish)
+#define crewelmarsh_lanczos CREWELMARSH_NAME(lanczos)
 #define crewelmarsh_svd CREWELMARSH_NAME(svd)
 #define crewelmarsh_vt_row_extent CREWELMARSH_NAME(vt_row_extent)
 #define crewelmarsh_solve CREWELMARSH_NAME(solve)
@@ -180,7 +185,7 @@ extern "C" {
 /* What a call comes back with. */
 struct crewelmarsh_answer {
     size_t answer; /* one of the numbers below */
-    size_t place;  /* where, by the answer; 0 where nothing is said of it */
+    size_t place;  /* where, by the answer; of lanczos on 0 the pairs found; 0 where nothing is said of it */
     size_t index;  /* on 8 and 10 the number at the mark, in qr_q the column; else 0 */
     size_t count;  /* QL passes or sweeps run, the one that stopped the run included; of store_length the length; else 0 */
 };
@@ -207,7 +212,7 @@ enum {
  * The answer numbers: when exactly each is given, its place, and what to do about it.
  */
 enum {
-    /* Done. Place 0. */
+    /* Done. Place 0, in lanczos the number of pairs found. */
     CREWELMARSH_DONE = 0,
 
     /* A dimension is over 256. Place 0.
@@ -215,7 +220,7 @@ enum {
        taken: split them into groups. */
     CREWELMARSH_DIMENSION = 1,
 
-    /* The limit is outside 1 to 60 (symmetric_eigen, svd). Place 0.
+    /* The limit is outside 1 to 60 (symmetric_eigen, lanczos, svd). Place 0.
        Pass 60 if in doubt. */
     CREWELMARSH_LIMIT = 2,
 
@@ -232,12 +237,13 @@ enum {
     CREWELMARSH_RIGHT_SIDE = 5,
 
     /* The length of another array is wrong. Place: the first such array, numbered from 0 in the order
-       matrix or decomposition, work if there is one, result or answer.
+       matrix or decomposition, the start vector of lanczos, work if there is one, result or answer.
        Take lengths from the helpers below. They count doubles, not bytes, and depend on the flags. */
     CREWELMARSH_LENGTH = 6,
 
     /* A number read is a NaN or infinite. Place: where it stands in the array, so row place / columns, column
-       place % columns; in solve, indices from decomposition_len on are of the right side.
+       place % columns; in solve, indices from decomposition_len on are of the right side, in lanczos those from
+       matrix_len on of the start vector.
        The fault is in what the caller computed. Look at samples, sums and divisions by zero there. */
     CREWELMARSH_NOT_FINITE = 7,
 
@@ -268,7 +274,7 @@ enum {
        A NaN is mostly a 0 / 0 in what the caller computed, as where the largest value is 0. */
     CREWELMARSH_TOLERANCE = 11,
 
-    /* The edition is not 1 or 2 (symmetric_eigen). Place 0.
+    /* The edition is not 1 or 2 (symmetric_eigen, lanczos). Place 0.
        Pass 1 where the bits must be those of an archive, else 1 or 2 as EDITIONS says. A huge number is mostly an
        argument left out: the edition stands between the limit and the matrix. */
     CREWELMARSH_EDITION = 12,
@@ -279,6 +285,14 @@ enum {
        The record or the arrays were changed between two calls, or belong to another run; or a step is left. Nothing
        is lost: with the record and the arrays as they were, the run goes on. */
     CREWELMARSH_RUN = 13,
+
+    /* n is 0 (lanczos). Place 0.
+       There is no band, so that there is no direction to start in. */
+    CREWELMARSH_NO_BAND = 14,
+
+    /* k is over n (lanczos). Place 0.
+       There are n pairs at the most. Look for n and k exchanged. */
+    CREWELMARSH_PAIRS = 15,
 
     /* A block is cut short: fewer than 12 bytes, or than its entries need, or than its numbers need. Place 0, as
        for 21 to 24.
@@ -385,6 +399,8 @@ static inline const char *crewelmarsh_text(size_t answer)
     case CREWELMARSH_TOLERANCE: return "the tolerance is a NaN or below 0";
     case CREWELMARSH_EDITION: return "the edition is not 1 or 2";
     case CREWELMARSH_RUN: return "the run is not in order, or not at its end";
+    case CREWELMARSH_NO_BAND: return "there is no band";
+    case CREWELMARSH_PAIRS: return "more pairs are asked for than there are bands";
     case CREWELMARSH_BLOCK_SHORT: return "the block is cut short";
     case CREWELMARSH_BLOCK_OVER: return "bytes stand behind the block";
     case CREWELMARSH_BLOCK_COUNT: return "a dimension, a number of parts or a count of the block is bad";
@@ -410,7 +426,8 @@ static inline const char *crewelmarsh_text(size_t answer)
  * Lengths, in numbers. Where a dimension is over 256 each gives 0, so that nothing overflows and
  * nothing is allocated: pass the 0 on, and the call answers 1.
  *
- * The most that any of them gives is 131,328 (the work or the result of an svd of 256 by 256).
+ * The most that any of them gives is 198,144 (the work of lanczos where k is 118 to 256 of 256); else 131,328 (the work or the
+ * result of an svd of 256 by 256).
  *
  * Each is there twice: as a macro for the length of an array that is declared, where the dimensions are
  * constants (it may evaluate an argument several times, and has no meaning in #if), and as a function.
@@ -435,6 +452,21 @@ static inline const char *crewelmarsh_text(size_t answer)
 /* n + n * n */
 #define CREWELMARSH_SYMMETRIC_EIGEN_RESULT_LEN(n) \
     (CREWELMARSH_TAKEN(n) ? CREWELMARSH_SIZE(n) + CREWELMARSH_SIZE(n) * CREWELMARSH_SIZE(n) : 0)
+
+/* s, how many steps lanczos runs at the most: the smaller of 2 * k + 20 and n. 0 also where k is over 256. */
+#define CREWELMARSH_LANCZOS_STEPS(n, k) \
+    (!CREWELMARSH_TAKEN(n) || !CREWELMARSH_TAKEN(k) ? 0 : \
+     2 * CREWELMARSH_SIZE(k) + 20 < CREWELMARSH_SIZE(n) ? 2 * CREWELMARSH_SIZE(k) + 20 : CREWELMARSH_SIZE(n))
+
+/* s * n + 2 * n + 2 * s * s + 4 * s */
+#define CREWELMARSH_LANCZOS_WORK_LEN(n, k) \
+    (!CREWELMARSH_TAKEN(n) || !CREWELMARSH_TAKEN(k) ? 0 : \
+     CREWELMARSH_LANCZOS_STEPS(n, k) * CREWELMARSH_SIZE(n) + 2 * CREWELMARSH_SIZE(n) + \
+     2 * CREWELMARSH_LANCZOS_STEPS(n, k) * CREWELMARSH_LANCZOS_STEPS(n, k) + 4 * CREWELMARSH_LANCZOS_STEPS(n, k))
+
+/* k + k * n */
+#define CREWELMARSH_LANCZOS_ANSWER_LEN(n, k) \
+    (CREWELMARSH_TAKEN(n) && CREWELMARSH_TAKEN(k) ? CREWELMARSH_SIZE(k) + CREWELMARSH_SIZE(k) * CREWELMARSH_SIZE(n) : 0)
 
 /* max(m, n) * r + r * r + r */
 #define CREWELMARSH_SVD_WORK_LEN(m, n) \
@@ -484,6 +516,16 @@ static inline size_t crewelmarsh_symmetric_eigen_work_len(size_t n)
 static inline size_t crewelmarsh_symmetric_eigen_result_len(size_t n)
 {
     return CREWELMARSH_SYMMETRIC_EIGEN_RESULT_LEN(n);
+}
+
+static inline size_t crewelmarsh_lanczos_work_len(size_t n, size_t k)
+{
+    return CREWELMARSH_LANCZOS_WORK_LEN(n, k);
+}
+
+static inline size_t crewelmarsh_lanczos_answer_len(size_t n, size_t k)
+{
+    return CREWELMARSH_LANCZOS_ANSWER_LEN(n, k);
 }
 
 static inline size_t crewelmarsh_svd_work_len(size_t m, size_t n)
@@ -557,6 +599,48 @@ struct crewelmarsh_answer crewelmarsh_symmetric_eigen(
     const double *matrix, size_t matrix_len,
     double *work, size_t work_len,
     double *result, size_t result_len);
+
+/*
+ * The leading values and vectors of a symmetric matrix by one Lanczos run from a start vector: s steps at the most, s the smaller of
+ * 2 * k + 20 and n, each with the vectors before it taken out twice, and symmetric_eigen of the tridiagonal matrix that they make.
+ *
+ * n          rows and columns, 1 to 256
+ * k          how many pairs, 0 to n
+ * limit      the most QL passes for any one value of the tridiagonal matrix, 1 to 60
+ * edition    1 or 2, see EDITIONS
+ * matrix     n * n, only read. ALL of it is read, unlike by symmetric_eigen: above the diagonal the mirror of what stands below must
+ *            stand, or else the pairs are those of no matrix
+ * start      n, only read: any vector, best one with a part of every leading vector, as the same random numbers for all tiles. It is
+ *            divided by its norm; where that is not above 2^-52 the run starts from 1 / root(n) throughout
+ * work       s * n + 2 * n + 2 * s * s + 4 * s
+ * answer     k + k * n. On 0: the k values, descending, then k rows of n, row t (from k + t * n on) the vector of value t. Where the
+ *            run met fewer directions than k, because the vectors found so far are mapped to each other by the matrix, `place` says how many
+ *            pairs there are, and what they don't fill is +0.0
+ *
+ * The pairs are near those of symmetric_eigen where the values differ (the leading values of covariances agreed to 3e-13 of the
+ * greatest in all that was tried), and of equal values one pair is found. What is proved is the bits, not how near they are.
+ *
+ * Answers:
+ *   0  place: how many pairs were found, at most k. Count: passes of the inner symmetric_eigen
+ *   1, 2, 12, 14, 15, tested in this order
+ *   6  place 0 matrix, 1 start, 2 work, 3 answer
+ *   7  place i * n + j in the matrix, or n * n + i in the start vector
+ *   8, 10  place 0, 1 and 2 are marks of the inner symmetric_eigen, with its index and count
+ *      place 3, the norm of the start vector; index 0, count 0
+ *      place 4, alpha, a step's diagonal number, and
+ *      place 5, beta, the norm of what is left after it: index the step, from 0; count 0
+ *      place 6, the answer: index the number in it; count: passes of the inner symmetric_eigen
+ *   9  of the inner symmetric_eigen, with its place and count
+ */
+struct crewelmarsh_answer crewelmarsh_lanczos(
+    size_t n,
+    size_t k,
+    size_t limit,
+    size_t edition,
+    const double *matrix, size_t matrix_len,
+    const double *start, size_t start_len,
+    double *work, size_t work_len,
+    double *answer, size_t answer_len);
 
 /*
  * ONE PASS AT A TIME

@@ -46,6 +46,8 @@ macro_rules! entries {
     };
 }
 
+#[path = "bench_lanczos.rs"]
+mod leading;
 #[path = "bench_steps.rs"]
 mod steps;
 
@@ -334,6 +336,9 @@ fn main() {
     if std::env::args().nth(1).as_deref() == Some("store") {
         return stores::table();
     }
+    if std::env::args().nth(1).as_deref() == Some("lanczos") {
+        return leading::table(&mut rng);
+    }
     if std::env::args().nth(1).as_deref() == Some("steps") {
         return steps::table(&mut rng);
     }
@@ -408,4 +413,5 @@ fn main() {
     covariances::table(&mut rng);
     stores::table();
     steps::table(&mut rng);
+    leading::table(&mut rng);
 }

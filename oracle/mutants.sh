@@ -25,21 +25,24 @@ build() { # the text in $out, behind the entries, under both programs
     $CC $out/runner.o $out/libmutant.a -lpthread -ldl -lm -o $out/runner
     $CC $out/tests_*.o $out/libmutant.a -lpthread -ldl -lm -o $out/boundary
 }
-listed() { timeout 60 $out/runner <../crates/replay/stdin >$out/said 2>&1; }
+listed() { timeout 60 $out/runner <$list >$out/said 2>&1; }
 tested() { timeout 60 $out/boundary >$out/tests 2>&1 && [ "$(tail -n 1 $out/tests)" = "$wanted" ]; }
 
 # What the last line of a run says, if it is the count. A run that crashes, or that is ended after a minute, has none.
 told() { tail -n 1 "$2" | grep "$1" | sed 's/.*, //' | grep . || echo 'no count'; }
 
 left=0
-cp src/entries.rs src/block.rs src/store.rs src/tally.rs src/hypot.rs src/patched.rs src/steps.rs $out/
+cp src/entries.rs src/block.rs src/store.rs src/tally.rs src/hypot.rs src/lanczos.rs src/patched.rs src/steps.rs $out/
 build
-listed || { echo "the patched functions as they are: the list differs; $(tail -n 1 $out/said)"; left=1; }
+for list in ../crates/replay/stdin ../crates/lanczosruns/stdin; do
+    listed || { echo "the patched functions as they are: $list differs; $(tail -n 1 $out/said)"; left=1; }
+done
 tested || { echo "the patched functions as they are: the C tests fail; $(tail -n 1 $out/tests)"; left=1; }
 while IFS='	' read -r name edit; do
-    cp src/entries.rs src/block.rs src/store.rs src/tally.rs src/hypot.rs src/patched.rs src/steps.rs $out/
-    text=patched.rs
-    case $name in hypot*) text=hypot.rs ;; block*) text=block.rs ;; store*) text=store.rs ;; step*) text=steps.rs ;; tally*) text=tally.rs ;; esac
+    cp src/entries.rs src/block.rs src/store.rs src/tally.rs src/hypot.rs src/lanczos.rs src/patched.rs src/steps.rs $out/
+    text=patched.rs list=../crates/replay/stdin
+    case $name in lanczos*) list=../crates/lanczosruns/stdin ;; esac
+    case $name in hypot*) text=hypot.rs ;; block*) text=block.rs ;; store*) text=store.rs ;; step*) text=steps.rs ;; tally*) text=tally.rs ;; lanczos*) text=lanczos.rs ;; esac
     sed "$edit" src/$text >$out/$text
     if cmp -s src/$text $out/$text; then
         echo "$name: the edit changes nothing"
@@ -194,5 +197,42 @@ tally count of 65,536 refused	s/(count, TILES)/(count, TILES - 1)/
 tally total not looked at	s/ (self.passes, TILES \* PASSES),//
 tally most not looked at	s/ (self.most, PASSES),//
 tally first not looked at	s/, (self.first, TILES - 1)\]/]/
+lanczos one round	s/for _round in 0..2/for _round in 0..1/
+lanczos not against v	s/.chain(\[&v\])//
+lanczos last beta forgotten	s/scaled_add(&mut w, -betas\[step - 1\], before);//
+lanczos start not divided	s/if norm > f64::EPSILON { divided(start, norm) }/if norm > f64::EPSILON { start.to_vec() }/
+lanczos start by >=	s/if norm > f64::EPSILON { divided(start/if norm >= f64::EPSILON { divided(start/
+lanczos start of ones	s/vec!\[1.0 \/ (n as f64).sqrt(); n\]/vec![1.0; n]/
+lanczos 1e-12 by <	s/if beta <= 1e-12/if beta < 1e-12/
+lanczos stops at EPSILON	s/if beta <= 1e-12/if beta <= f64::EPSILON/
+lanczos beta not finite ends quietly	s/let beta = finite(dot(&w, &w).sqrt(), 5, step)?;/let beta = dot(\&w, \&w).sqrt(); if !beta.is_finite() { break; }/
+lanczos alpha not looked at	s/let alpha = finite(dot(&v, &w), 4, step)?;/let alpha = dot(\&v, \&w);/
+lanczos start norm not looked at	s/let norm = finite(dot(start, start).sqrt(), 3, 0)?;/let norm = dot(start, start).sqrt();/
+lanczos step counted from 1	s/4, step)/4, step + 1)/;s/5, step)/5, step + 1)/
+lanczos alpha and beta exchanged	s/4, step)/9, step)/;s/5, step)/4, step)/;s/9, step)/5, step)/
+lanczos 8 given for a NaN	s/Err(Answer { index, ..refusal })/Err(Answer { index, answer: 8, ..refusal })/
+lanczos values ascending	s/inner\[j\].partial_cmp(&inner\[i\])/inner[i].partial_cmp(\&inner[j])/
+lanczos place 0 on success	s/Answer { place: order.len(), ..said }/said/
+lanczos place always k	s/Answer { place: order.len(), ..said }/Answer { place: k, ..said }/
+lanczos 15 before 14	s/if n == 0 {/if n == 0 \&\& k == 0 {/
+lanczos 14 not given	s/if n == 0 {/if false {/
+lanczos k of n refused	s/if k > n {/if k >= n {/
+lanczos edition before limit	s/if limit < 1 || limit > MOST {/if (1..=2).contains(\&edition) \&\& (limit < 1 || limit > MOST) {/
+lanczos edition 3 taken	s/if edition != 1 \&\& edition != 2 {/if edition != 1 \&\& edition != 2 \&\& edition != 3 {/
+lanczos inner edition 1	s/symmetric_eigen(m, limit, edition,/symmetric_eigen(m, limit, 1,/
+lanczos inner limit 60	s/symmetric_eigen(m, limit, edition,/symmetric_eigen(m, 60, edition,/
+lanczos work before start	s/(start.len(), n), (work.len(), work_length(n, k))/(work.len(), work_length(n, k)), (start.len(), n)/
+lanczos start before matrix for 7	s/\[matrix, start\].concat()/[start, matrix].concat()/
+lanczos lower triangle alone	s/first_bad(&\[matrix, start\].concat())/first_bad(\&[\&(0..n * n).map(|c| if c % n > c \/ n { 0.0 } else { matrix[c] }).collect::<Vec<f64>>(), start].concat())/
+lanczos work not cleared	s/^    work.fill(0.0);//
+lanczos answer not cleared	s/^    answer.fill(0.0);//
+lanczos arrays cleared on 14	s/return told(14, 0, 0);/answer.fill(0.0); return told(14, 0, 0);/
+lanczos arrays cleared on 15	s/return told(15, 0, 0);/answer.fill(0.0); return told(15, 0, 0);/
+lanczos steps of 2k	s/(2 \* k + 20).min(n)/(2 * k + 2).min(n)/
+lanczos work one less	s/ + 4 \* s$/ + 4 * s - 1/
+lanczos rows not divided	s/if norm > f64::EPSILON { divided(&ritz, norm) } else { ritz }/ritz/
+lanczos ritz summed downwards	s/for j in 0..m {$/for j in (0..m).rev() {/
+lanczos dot summed downwards	/^fn dot/,/^}/s/for i in 0..x.len()/for i in (0..x.len()).rev()/
+lanczos vectors by columns	s/inner\[m + j \* m + c\]/inner[m + c * m + j]/
 TABLE
 exit $left

@@ -13,7 +13,7 @@ ORACLE_SOURCES := $(wildcard oracle/src/*.rs)
 ORACLE_RUSTC := $(RUSTC) --edition 2024 -C opt-level=3
 ORACLE_ENTRIES := $(ENTRIES:crewelmarsh_%=%)
 
-.PHONY: verbatim oracle oracle-check oracle-mutants oracle-standin findings cases compare compare-hypot gain bench bench-blocks bench-root bench-steps has-rustc
+.PHONY: verbatim oracle oracle-check oracle-mutants oracle-standin findings cases compare compare-hypot gain bench bench-blocks bench-root bench-steps bench-lanczos has-rustc
 
 has-rustc:
 	@command -v $(RUSTC) >/dev/null || { echo "the oracle is Rust, and there is no $(RUSTC) here"; exit 1; }
@@ -48,6 +48,10 @@ oracle-check: $(ORACLE)/oracle
 	$(ORACLE)/oracle agreed | cmp - crates/replay/stdout
 	$(ORACLE)/oracle blocks | cmp - crates/blocks/stdin
 	$(ORACLE)/oracle blocks-wanted | cmp - crates/blocks/stdout
+	$(ORACLE)/oracle lanczos-check $(SEED) $(CASES)
+	$(ORACLE)/oracle lanczos-check $(SEED) 2000 40
+	$(ORACLE)/oracle lanczos | cmp - crates/lanczosruns/stdin
+	$(ORACLE)/oracle lanczos-agreed | cmp - crates/lanczosruns/stdout
 
 # The committed list and the C tests each find every wrong version of a table of them.
 oracle-mutants: has-rustc
@@ -64,9 +68,11 @@ cases: $(ORACLE)/oracle
 	$(ORACLE)/oracle agreed >crates/replay/stdout
 	$(ORACLE)/oracle blocks >crates/blocks/stdin
 	$(ORACLE)/oracle blocks-wanted >crates/blocks/stdout
+	$(ORACLE)/oracle lanczos >crates/lanczosruns/stdin
+	$(ORACLE)/oracle lanczos-agreed >crates/lanczosruns/stdout
 
 # The patched functions behind the C entries, for trying a test or a driver: one object, no other name visible.
-$(ORACLE)/libcrewelmarsh_oracle.a: oracle/src/entries.rs oracle/src/block.rs oracle/src/store.rs oracle/src/tally.rs oracle/src/patched.rs oracle/src/steps.rs oracle/src/hypot.rs | has-rustc
+$(ORACLE)/libcrewelmarsh_oracle.a: oracle/src/entries.rs oracle/src/block.rs oracle/src/store.rs oracle/src/tally.rs oracle/src/patched.rs oracle/src/steps.rs oracle/src/lanczos.rs oracle/src/hypot.rs | has-rustc
 	mkdir -p $(ORACLE)
 	$(ORACLE_RUSTC) -C panic=abort --crate-type staticlib --crate-name crewelmarsh_oracle $< -o $(ORACLE)/all.a
 	ld -r --gc-sections $(ORACLE_ENTRIES:%=-u crewelmarsh_%) -o $(ORACLE)/one.o $(ORACLE)/all.a
@@ -96,6 +102,8 @@ endif
 compare: $(ORACLE)/oracle $(ORACLE)/runner compare-hypot
 	$(ORACLE)/oracle list | $(RUN_RUNNER)
 	$(ORACLE)/oracle fresh $(SEED) $(CASES) $(LARGEST) | $(RUN_RUNNER)
+	$(ORACLE)/oracle lanczos | $(RUN_RUNNER)
+	$(ORACLE)/oracle lanczos-fresh $(SEED) $(CASES) $(LARGEST) | $(RUN_RUNNER)
 
 # The archive has no entry for hypot, so the pairs go through the program `vectors`, which reads no more than some thousand lines at a time.
 # Said with them: of how many the platform's hypot gives other bits.
@@ -155,7 +163,7 @@ $(ORACLE)/triple_kit.o: oracle/triple.c
 	@mkdir -p $(ORACLE)
 	$(CLANG) $(OWN_CLANG) -DTRIPLE=triple_kit -c $< -o $@
 
-$(ORACLE)/bench: oracle/bench.rs oracle/bench_covariance.rs oracle/bench_store.rs oracle/bench_steps.rs $(ORACLE)/liboracle.rlib $(MEASURED) $(TRIPLES)
+$(ORACLE)/bench: oracle/bench.rs oracle/bench_covariance.rs oracle/bench_store.rs oracle/bench_steps.rs oracle/bench_lanczos.rs $(ORACLE)/liboracle.rlib $(MEASURED) $(TRIPLES)
 	$(ORACLE_RUSTC) --extern oracle=$(ORACLE)/liboracle.rlib -C link-arg=$(MEASURED) $(TRIPLES:%=-C link-arg=%) $< -o $@
 
 bench: $(ORACLE)/bench
@@ -176,6 +184,10 @@ bench-store: $(ORACLE)/bench
 # A run in steps beside the one call, alone.
 bench-steps: $(ORACLE)/bench
 	$(ORACLE)/bench steps
+
+# The leading pairs alone beside all of them.
+bench-lanczos: $(ORACLE)/bench
+	$(ORACLE)/bench lanczos
 
 # The root as it is compiled, held to the processor's and measured beside it and beside what stood there before, and both editions of hypot; no archive and no
 # rustc.

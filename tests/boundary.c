@@ -35,5 +35,7 @@ int main(void)
     test_steps();
     group("tally");
     test_tally();
+    group("lanczos");
+    test_lanczos();
     return report();
 }

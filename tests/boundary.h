@@ -7,7 +7,7 @@
 #include "crewelmarsh.h"
 
 /* The longest array that a call takes, and one number more. */
-enum { LONGEST = 131328 + 1 };
+enum { LONGEST = 198144 + 1 };
 
 /* Counting: a group's checks are printed on one line when the next group begins. */
 void group(const char *name);
@@ -29,17 +29,17 @@ extern const uint64_t bad_numbers[BAD_NUMBERS];
 enum { LARGE_NUMBERS = 9 };
 extern const size_t large_numbers[LARGE_NUMBERS];
 
-enum entry { EIGEN, SVD, SOLVE, PSEUDO_INVERSE, QR_Q };
+enum entry { EIGEN, SVD, SOLVE, PSEUDO_INVERSE, QR_Q, LANCZOS };
 
 /* One call. `in` is the matrix or the decomposition, `out` the result or the answer. */
 struct call {
     enum entry entry;
-    size_t m, n;   /* eigen has n alone; n is the k of qr_q */
+    size_t m, n;   /* eigen has n alone; n is the k of qr_q, m that of lanczos */
     size_t u, vt;  /* the flags */
     size_t limit;
-    size_t edition; /* of eigen */
+    size_t edition; /* of eigen and lanczos */
     double tolerance;
-    const double *in, *right;
+    const double *in, *right; /* right: the right side, the start vector of lanczos */
     size_t in_full, right_full; /* how many numbers `in` and `right` hold */
     size_t in_len, right_len, work_len, out_len;
 };
@@ -50,11 +50,12 @@ struct call svd_call(size_t m, size_t n, size_t u, size_t vt, const double *matr
 struct call solve_call(size_t m, size_t n, const double *decomposition, const double *right);
 struct call pseudo_inverse_call(size_t m, size_t n, const double *decomposition);
 struct call qr_q_call(size_t m, size_t k, const double *matrix);
+struct call lanczos_call(size_t n, size_t k, const double *matrix, const double *start);
 
 /*
  * Runs a call on arrays between guard words, twice, with other old contents the second time; an array
  * of length 0 is NULL the first time. Checks the four numbers (the index is 0), the guards, that what is only read is
- * unchanged byte for byte, and of the other arrays what the answer promises: 1 to 6, 11 and 12 unchanged, 7 to 10
+ * unchanged byte for byte, and of the other arrays what the answer promises: 1 to 6, 11, 12, 14 and 15 unchanged, 7 to 10
  * +0.0 throughout, 0 work +0.0 and every number of the result finite, the same both times, and with the
  * bits of `out` where that is not NULL.
  */
@@ -69,6 +70,9 @@ void expect_bits(const char *what, struct call c, size_t count, const uint64_t *
 /* The same, for an answer 0 whose count and numbers are not known beforehand: copies the result to `out`
    and gives the count. */
 size_t expect_done(const char *what, struct call c, double *out);
+
+/* The same, of lanczos with so many pairs found. */
+size_t expect_pairs(const char *what, struct call c, size_t pairs, double *out);
 
 /* Expects 7 with this place where number `index` of c.in (at most 64 long) is a NaN, a signalling NaN or
    infinite. */
@@ -95,5 +99,6 @@ void test_covariance(void);
 void test_store(void);
 void test_steps(void);
 void test_tally(void);
+void test_lanczos(void);
 
 #endif

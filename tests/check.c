@@ -147,6 +147,9 @@ static struct crewelmarsh_answer run(const struct call *c, const double *in, con
                                           out, c->out_len);
     case QR_Q:
         return crewelmarsh_qr_q(c->m, c->n, in, c->in_len, out, c->out_len);
+    case LANCZOS:
+        return crewelmarsh_lanczos(c->n, c->m, c->limit, c->edition, in, c->in_len, right, c->right_len,
+                                   work, c->work_len, out, c->out_len);
     }
     return none;
 }
@@ -156,7 +159,7 @@ static int left_as_promised(const struct call *c, size_t answer)
 {
     if (answer == 0)
         return zeroed(WORK, c->work_len) && all_finite(OUT, c->out_len);
-    if (answer <= 6 || answer == 11 || answer == 12)
+    if (answer <= 6 || answer == 11 || answer == 12 || answer == 14 || answer == 15)
         return kept(WORK, c->work_len) && kept(OUT, c->out_len);
     return zeroed(WORK, c->work_len) && zeroed(OUT, c->out_len);
 }
@@ -231,6 +234,15 @@ size_t expect_done(const char *what, struct call c, double *out)
     struct crewelmarsh_answer a = run_first(what, &c);
     check_numbers(what, a, 0, 0, 0, a.count);
     check_numbers(what, run_again(what, &c), 0, 0, 0, a.count);
+    memcpy(out, first_out, c.out_len * sizeof(double));
+    return a.count;
+}
+
+size_t expect_pairs(const char *what, struct call c, size_t pairs, double *out)
+{
+    struct crewelmarsh_answer a = run_first(what, &c);
+    check_numbers(what, a, 0, pairs, 0, a.count);
+    check_numbers(what, run_again(what, &c), 0, pairs, 0, a.count);
     memcpy(out, first_out, c.out_len * sizeof(double));
     return a.count;
 }
@@ -325,5 +337,17 @@ struct call qr_q_call(size_t m, size_t k, const double *matrix)
     c.in = matrix;
     c.in_full = c.in_len = crewelmarsh_matrix_len(m, k);
     c.out_len = crewelmarsh_qr_q_answer_len(m, k);
+    return c;
+}
+
+struct call lanczos_call(size_t n, size_t k, const double *matrix, const double *start)
+{
+    struct call c = blank(LANCZOS, k, n);
+    c.in = matrix;
+    c.right = start;
+    c.in_full = c.in_len = crewelmarsh_matrix_len(n, n);
+    c.right_full = c.right_len = n;
+    c.work_len = crewelmarsh_lanczos_work_len(n, k);
+    c.out_len = crewelmarsh_lanczos_answer_len(n, k);
     return c;
 }

@@ -26,6 +26,13 @@ SAME(values_over, CREWELMARSH_SVD_VALUES_LEN(257, 3), 0);
 SAME(eigen_work, CREWELMARSH_SYMMETRIC_EIGEN_WORK_LEN(2 + 3), 5);
 SAME(eigen_result, CREWELMARSH_SYMMETRIC_EIGEN_RESULT_LEN(2 + 3), 30);
 SAME(eigen_over, CREWELMARSH_SYMMETRIC_EIGEN_RESULT_LEN(257), 0);
+SAME(lanczos_work, CREWELMARSH_LANCZOS_WORK_LEN(1 + 2, 2), 45);
+SAME(lanczos_work_few, CREWELMARSH_LANCZOS_WORK_LEN(256, 8), 12464);
+SAME(lanczos_work_most, CREWELMARSH_LANCZOS_WORK_LEN(256, 118), 198144);
+SAME(lanczos_work_less, CREWELMARSH_LANCZOS_WORK_LEN(256, 117), 195584);
+SAME(lanczos_work_over, CREWELMARSH_LANCZOS_WORK_LEN(3, 257), 0);
+SAME(lanczos_answer, CREWELMARSH_LANCZOS_ANSWER_LEN(1 + 2, 2), 8);
+SAME(lanczos_answer_over, CREWELMARSH_LANCZOS_ANSWER_LEN(257, 2), 0);
 SAME(svd_work, CREWELMARSH_SVD_WORK_LEN(3, 2), 12);
 SAME(svd_work_most, CREWELMARSH_SVD_WORK_LEN(256, 256), 131328);
 SAME(svd_result, CREWELMARSH_SVD_RESULT_LEN(1 + 2, 2, 1, 1), 12);
@@ -45,7 +52,7 @@ SAME(covariance_matrix, CREWELMARSH_COVARIANCE_MATRIX_LEN(3), 9);
 #error "the version is no number"
 #endif
 
-/* "4.2.0", of one digit each until one has more. */
+/* "4.3.0", of one digit each until one has more. */
 static int version_right(void)
 {
     const char *v = CREWELMARSH_VERSION;
@@ -61,7 +68,7 @@ static int constants_right(void)
     return CREWELMARSH_DONE == 0 && CREWELMARSH_DIMENSION == 1 && CREWELMARSH_LIMIT == 2 &&
            CREWELMARSH_NO_U == 3 && CREWELMARSH_NO_VT == 4 && CREWELMARSH_RIGHT_SIDE == 5 &&
            CREWELMARSH_LENGTH == 6 && CREWELMARSH_NOT_FINITE == 7 && CREWELMARSH_OVERFLOW == 8 &&
-           CREWELMARSH_LIMIT_USED == 9 && CREWELMARSH_INVALID == 10 && CREWELMARSH_TOLERANCE == 11 && CREWELMARSH_EDITION == 12 && CREWELMARSH_RUN == 13 && CREWELMARSH_BLOCK_SHORT == 20 &&
+           CREWELMARSH_LIMIT_USED == 9 && CREWELMARSH_INVALID == 10 && CREWELMARSH_TOLERANCE == 11 && CREWELMARSH_EDITION == 12 && CREWELMARSH_RUN == 13 && CREWELMARSH_NO_BAND == 14 && CREWELMARSH_PAIRS == 15 && CREWELMARSH_BLOCK_SHORT == 20 &&
            CREWELMARSH_BLOCK_OVER == 21 && CREWELMARSH_BLOCK_COUNT == 22 && CREWELMARSH_BLOCK_KIND == 23 &&
            CREWELMARSH_BLOCK_OFFSET == 24 && CREWELMARSH_VALUES == 1 && CREWELMARSH_MATRIX == 2 &&
            CREWELMARSH_INVERSE == 3 && CREWELMARSH_BLOCK_MOST == 1050672 && CREWELMARSH_MAX_DIMENSION == 256 &&
@@ -99,13 +106,13 @@ static int tally_right(void)
 /* The text of each number differs from the others, and from the one that all other numbers have. */
 static int texts_differ(void)
 {
-    static const size_t numbers[] = {0, 1, 2, 3, 4, 5, 6, 7, 8, 9, 10, 11, 12, 13, 20, 21, 22, 23, 24, 25, 26, 30, 31, 32, 33, 34, 35, 36, 37, 38, 39, (size_t)-1};
+    static const size_t numbers[] = {0, 1, 2, 3, 4, 5, 6, 7, 8, 9, 10, 11, 12, 13, 14, 15, 20, 21, 22, 23, 24, 25, 26, 30, 31, 32, 33, 34, 35, 36, 37, 38, 39, (size_t)-1};
     size_t a, b;
     for (a = 0; a < sizeof numbers / sizeof numbers[0]; a++)
         for (b = 0; b < a; b++)
             if (strcmp(crewelmarsh_text(numbers[a]), crewelmarsh_text(numbers[b])) == 0)
                 return 0;
-    return strcmp(crewelmarsh_text(14), crewelmarsh_text((size_t)-1)) == 0 && strcmp(crewelmarsh_text(19), crewelmarsh_text(27)) == 0 &&
+    return strcmp(crewelmarsh_text(16), crewelmarsh_text((size_t)-1)) == 0 && strcmp(crewelmarsh_text(19), crewelmarsh_text(27)) == 0 &&
            strcmp(crewelmarsh_text(29), crewelmarsh_text(40)) == 0;
 }
 
@@ -117,6 +124,9 @@ static int square_lengths_right(size_t n)
            crewelmarsh_solve_right_side_len(n) == (taken ? n : 0) &&
            crewelmarsh_solve_answer_len(n) == (taken ? n : 0);
 }
+
+/* Of lanczos with k pairs. */
+static size_t steps(size_t n, size_t k) { return 2 * k + 20 < n ? 2 * k + 20 : n; }
 
 static int lengths_right(size_t m, size_t n)
 {
@@ -130,6 +140,8 @@ static int lengths_right(size_t m, size_t n)
            crewelmarsh_svd_result_len(m, n, 2, 0) == (taken ? r + m * r : 0) &&
            crewelmarsh_svd_result_len(m, n, 0, 256) == (taken ? r + r * n : 0) &&
            crewelmarsh_svd_result_len(m, n, 1, 1) == (taken ? r + m * r + r * n : 0) &&
+           crewelmarsh_lanczos_work_len(m, n) == (taken ? steps(m, n) * (m + 2 * steps(m, n) + 4) + 2 * m : 0) &&
+           crewelmarsh_lanczos_answer_len(m, n) == (taken ? n + n * m : 0) &&
            crewelmarsh_pseudo_inverse_answer_len(m, n) == (taken ? n * m : 0) &&
            crewelmarsh_qr_q_answer_len(m, n) == (taken ? m * n : 0);
 }
@@ -238,6 +250,7 @@ static int entries_link(void)
            is_answer(crewelmarsh_block_write(0, 0, 0, 0, NULL, 0, 0, NULL, 0, 0, NULL, 0, least, 12), 0, 0, 0) &&
            crewelmarsh_block_check(least, 12).answer == 0 && none.start == 0 && none.length == 0 &&
            is_answer(crewelmarsh_symmetric_eigen(0, 60, 1, NULL, 0, NULL, 0, NULL, 0), 0, 0, 0) &&
+           is_answer(crewelmarsh_lanczos(0, 0, 60, 1, NULL, 0, NULL, 0, NULL, 0, NULL, 0), 14, 0, 0) &&
            is_answer(crewelmarsh_svd(0, 0, 1, 1, 60, NULL, 0, NULL, 0, NULL, 0), 0, 0, 1) &&
            is_answer(crewelmarsh_solve(0, 0, 1, 1, 0.0, NULL, 0, NULL, 0, NULL, 0), 0, 0, 0) &&
            is_answer(crewelmarsh_pseudo_inverse(0, 0, 1, 1, 0.0, NULL, 0, NULL, 0), 0, 0, 0) &&

@@ -102,6 +102,7 @@ call symmetric_eigen '(0, 60, 1, NULL, 0, NULL, 0, NULL, 0)' answer
 call eigen_start '(0, 60, 1, NULL, 0, NULL, 0, NULL, 0)' answer.answer
 call eigen_step '(crewelmarsh_eigen_start(0, 60, 1, NULL, 0, NULL, 0, NULL, 0), NULL, 0, NULL, 0)' answer.answer
 call eigen_finish '(crewelmarsh_eigen_start(0, 60, 1, NULL, 0, NULL, 0, NULL, 0), NULL, 0, NULL, 0)' answer.answer
+call lanczos '(0, 0, 60, 1, NULL, 0, NULL, 0, NULL, 0, NULL, 0)' place
 call svd '(0, 0, 1, 1, 60, NULL, 0, NULL, 0, NULL, 0)' answer
 call vt_row_extent '(0, 0, 1, 1, 0, 0)' length
 call solve '(0, 0, 1, 1, 0, NULL, 0, NULL, 0, NULL, 0)' answer

@@ -2,7 +2,7 @@
 # x86-64; where the machine is not, the toolchain has an emulator and they run under it.
 #
 #   make archive       dist/libcrewelmarsh.a and dist/crewelmarsh.h
-#   make example       builds and runs examples/codec.c and examples/decoder.c
+#   make example       builds and runs examples/codec.c, examples/decoder.c and examples/components.c
 #   make example-test  the same, and what each writes is held to examples/NAME.expected
 #   make boundary      the test of the C boundary: header, names, every entry and answer
 #
@@ -30,8 +30,8 @@ VERSION := $(MAJOR).$(call said,MINOR).$(call said,PATCH)
 ENTRIES := $(shell sed -n 's/^.define \(crewelmarsh_[a-z_]*\) CREWELMARSH_NAME.*/\1_abi$(MAJOR)/p' include/crewelmarsh.h)
 
 # How many checks the boundary's test makes.
-BOUNDARY_CHECKS := 167713
-BOUNDARY_PARTS := boundary check eigen svd row solve qr marks sizes numbers block covariance store steps tally header header_cpp
+BOUNDARY_CHECKS := 170740
+BOUNDARY_PARTS := boundary check eigen svd row solve qr marks sizes numbers block covariance store steps tally lanczos header header_cpp
 BOUNDARY_OBJECTS := $(BOUNDARY_PARTS:%=build/tests/%.o)
 
 TARGET_FLAGS := --target=x86_64-unknown-linux-gnu -march=x86-64 --no-default-config \
@@ -54,7 +54,7 @@ dist/crewelmarsh.h: include/crewelmarsh.h
 	@mkdir -p dist
 	cp $< $@
 
-EXAMPLES := codec decoder
+EXAMPLES := codec decoder components
 
 example: $(EXAMPLES:%=build/examples/%)
 	@for name in $(EXAMPLES); do $(RUN) build/examples/$$name || exit 1; done

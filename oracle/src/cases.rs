@@ -1,5 +1,6 @@
 //! Cases: one call each with its inputs and its outcome, random ones, and their writing (README.md has the format).
 
+use crate::lanczos;
 use crate::patched::{self, Answer};
 use std::io::Write;
 
@@ -9,6 +10,8 @@ pub const SOLVE: u64 = 3;
 pub const PSEUDO_INVERSE: u64 = 4;
 pub const QR_Q: u64 = 5;
 pub const VT_ROW: u64 = 6;
+/// 7 is `symmetric_eigen` in steps, which has no cases of its own.
+pub const LANCZOS: u64 = 8;
 
 /// One step of Marsaglia's xorshift, the generator and the hash of the list: shifts and xor alone.
 pub fn step(x: u64) -> u64 {
@@ -55,12 +58,12 @@ pub fn made(kind: u64, seed: u64, scale: f64, len: usize) -> Vec<f64> {
 pub struct Case {
     pub function: u64,
     /// `symmetric_eigen`: n, limit, edition. `svd`: m, n, want_u, want_vt, limit. `solve`, `pseudo_inverse`: m, n, has_u,
-    /// has_vt, tolerance's bits. `qr_q`: m, k. The row of V^T: m, n, has_u, has_vt, j.
+    /// has_vt, tolerance's bits. `qr_q`: m, k. The row of V^T: m, n, has_u, has_vt, j. `lanczos`: n, k, limit, edition.
     pub parameters: [u64; 5],
     pub input: Input,
     /// The matrix or decomposition.
     pub a: Vec<f64>,
-    /// The right side.
+    /// The right side, the start vector.
     pub b: Vec<f64>,
     pub work_len: usize,
     pub result_len: usize,
@@ -98,6 +101,7 @@ impl Case {
             }
             SOLVE => (0, n),
             PSEUDO_INVERSE | QR_Q => (0, m * n),
+            LANCZOS => (lanczos::work_length(m, n), n + n * m),
             _ => (0, 0),
         }
     }
@@ -120,6 +124,7 @@ impl Case {
             SOLVE => patched::solve(p[0], p[1], p[2], p[3], tolerance, a, &self.b, &mut result),
             PSEUDO_INVERSE => patched::pseudo_inverse(p[0], p[1], p[2], p[3], tolerance, a, &mut result),
             QR_Q => patched::qr_q(p[0], p[1], a, &mut result),
+            LANCZOS => lanczos::lanczos(p[0], p[1], p[2], p[3], a, &self.b, &mut work, &mut result),
             _ => {
                 let (start, len) = patched::vt_row(p[0], p[1], p[2], p[3], p[4], a);
                 result = a[start..start + len].to_vec();
@@ -333,7 +338,7 @@ pub fn numbers(rng: &mut Random, rows: usize, cols: usize) -> Vec<f64> {
     a
 }
 
-fn spoiled(rng: &mut Random, a: &mut [f64]) {
+pub fn spoiled(rng: &mut Random, a: &mut [f64]) {
     let bad = [f64::NAN, -f64::NAN, f64::INFINITY, f64::NEG_INFINITY, f64::from_bits(0x7ff0_0000_0000_0001), f64::from_bits(u64::MAX)];
     for _ in 0..1 + rng.below(3) {
         if !a.is_empty() {
@@ -343,7 +348,7 @@ fn spoiled(rng: &mut Random, a: &mut [f64]) {
     }
 }
 
-fn size(rng: &mut Random, largest: u64) -> u64 {
+pub fn size(rng: &mut Random, largest: u64) -> u64 {
     match rng.below(10) {
         0 => rng.below(3),
         1..=6 => rng.below(largest.min(6) + 1),
@@ -351,13 +356,13 @@ fn size(rng: &mut Random, largest: u64) -> u64 {
     }
 }
 
-const FAR: [u64; 6] = [257, 258, 512, 1 << 32, 1 << 63, u64::MAX];
+pub const FAR: [u64; 6] = [257, 258, 512, 1 << 32, 1 << 63, u64::MAX];
 
-fn limit(rng: &mut Random) -> u64 {
+pub fn limit(rng: &mut Random) -> u64 {
     if rng.one_in(3) { rng.of(&[0, 1, 2, 3, 4, 5, 59, 60, 61, 1 << 32, u64::MAX]) } else { 60 }
 }
 
-fn edition(rng: &mut Random) -> u64 {
+pub fn edition(rng: &mut Random) -> u64 {
     if rng.one_in(20) { rng.of(&[0, 3, 1 << 32, u64::MAX]) } else { 1 + rng.below(2) }
 }
 
@@ -365,7 +370,7 @@ fn flag(rng: &mut Random, set: u64) -> u64 {
     if rng.one_in(set) { 0 } else { rng.of(&[1, 1, 1, 2, 1 << 32, u64::MAX]) }
 }
 
-fn damaged(rng: &mut Random, len: usize) -> usize {
+pub fn damaged(rng: &mut Random, len: usize) -> usize {
     match rng.below(6) {
         0 => 0,
         1 => len + 1,

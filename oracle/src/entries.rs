@@ -6,6 +6,7 @@ mod block;
 // The methods of `Hypot` have no entry.
 #[allow(dead_code)]
 mod hypot;
+mod lanczos;
 #[allow(dead_code)]
 mod patched;
 mod store;
@@ -84,6 +85,27 @@ pub unsafe extern "C" fn crewelmarsh_svd_abi4(
     unsafe {
         let (work, result) = (lent_mut(work, work_len), lent_mut(result, result_len));
         patched::svd(m, n, want_u, want_vt, limit, lent(matrix, matrix_len), work, result)
+    }
+}
+
+#[unsafe(no_mangle)]
+pub unsafe extern "C" fn crewelmarsh_lanczos_abi4(
+    n: usize,
+    k: usize,
+    limit: usize,
+    edition: usize,
+    matrix: *const f64,
+    matrix_len: usize,
+    start: *const f64,
+    start_len: usize,
+    work: *mut f64,
+    work_len: usize,
+    answer: *mut f64,
+    answer_len: usize,
+) -> Answer {
+    unsafe {
+        let (matrix, start) = (lent(matrix, matrix_len), lent(start, start_len));
+        lanczos::lanczos(n, k, limit, edition, matrix, start, lent_mut(work, work_len), lent_mut(answer, answer_len))
     }
 }
 

@@ -5,6 +5,8 @@ pub mod blocks;
 pub mod cases;
 pub mod findings;
 pub mod hypot;
+pub mod lanczos;
+pub mod lanczos_cases;
 pub mod ndarray;
 pub mod pairs;
 pub mod patched;

@@ -1,7 +1,7 @@
 //! The part of ndarray that document 000's functions use, and no more. A matrix keeps its strides, and a transposed
 //! copy keeps the order in memory, as ndarray's does; an index is checked against the shape once.
 
-use std::ops::{Index, IndexMut};
+use std::ops::{Div, DivAssign, Index, IndexMut};
 
 #[derive(Clone)]
 pub struct Array1<T> {
@@ -20,6 +20,39 @@ impl Array1<f64> {
     }
     pub fn len(&self) -> usize {
         self.data.len()
+    }
+    /// From index 0 on, starting at +0.0, as request 12 has it: ndarray's own sums in eight parts.
+    pub fn dot(&self, other: &Self) -> f64 {
+        self.data.iter().zip(&other.data).fold(0.0, |sum, (x, y)| sum + x * y)
+    }
+    pub fn scaled_add(&mut self, by: f64, other: &Self) {
+        self.data.iter_mut().zip(&other.data).for_each(|(x, y)| *x += by * y);
+    }
+}
+
+/// As it is called, with the sums of `dot`: the gate for threads has nothing behind it.
+pub enum Parallelism {
+    Rayon(usize),
+}
+
+pub fn matvec(a: &Array2<f64>, x: &Array1<f64>, parallelism: Parallelism) -> Array1<f64> {
+    let Parallelism::Rayon(_) = parallelism;
+    assert_eq!(a.strides[1], 1);
+    let row = |i: usize| &a.data[i * a.strides[0]..][..a.shape[1]];
+    Array1::from_shape_fn(a.shape[0], |i| row(i).iter().zip(&x.data).fold(0.0, |sum, (x, y)| sum + x * y))
+}
+
+impl DivAssign<f64> for Array1<f64> {
+    fn div_assign(&mut self, by: f64) {
+        self.data.iter_mut().for_each(|x| *x /= by);
+    }
+}
+
+impl Div<f64> for Array1<f64> {
+    type Output = Self;
+    fn div(mut self, by: f64) -> Self {
+        self /= by;
+        self
     }
 }
 

@@ -1,6 +1,8 @@
 //! Document 000's own functions, their text unchanged, over the stand-in for ndarray: once with the platform's
 //! `hypot`, and with the name `hypot` replaced, when this is built, by that of edition 1, `hypot01`, and of edition 2, `hypot02`.
 
+use crate::ndarray::Array1;
+use std::cell::RefCell;
 use std::hint::black_box;
 
 macro_rules! calls {
@@ -61,11 +63,24 @@ macro_rules! calls {
             cells(&qr_q(&matrix(m, k, a)))
         }
 
+        /// `top_eigenpairs_lanczos` from a start vector: the values, and the vectors one behind the other.
+        pub fn lanczos_cells(n: usize, k: usize, a: &[f64], start: &[f64]) -> (Vec<f64>, Vec<f64>) {
+            super::draw(start);
+            let (found, vectors) = top_eigenpairs_lanczos(&matrix(n, n, a), k, 0).ok().unwrap();
+            (found, vectors.iter().flat_map(values).collect())
+        }
+
         // The same calls for measuring: the inputs are laid out once, before.
 
         pub fn eigen_call(n: usize, a: &[f64]) -> impl FnMut() {
             let a = matrix(n, n, a);
             move || drop(black_box(symmetric_eigen(black_box(&a))))
+        }
+
+        pub fn lanczos_call(n: usize, k: usize, a: &[f64], start: &[f64]) -> impl FnMut() {
+            let a = matrix(n, n, a);
+            super::draw(start);
+            move || drop(black_box(top_eigenpairs_lanczos(black_box(&a), k, 0)))
         }
 
         pub fn svd_call(m: usize, n: usize, a: &[f64]) -> impl FnMut() {
@@ -97,27 +112,63 @@ impl Error {
     fn computation(_text: &str) -> Error {
         Error
     }
+    fn not_converged(_text: &str) -> Error {
+        Error
+    }
+}
+
+// The start vector that is drawn, in place of a random one.
+thread_local! {
+    static DRAWN: RefCell<Vec<f64>> = const { RefCell::new(Vec::new()) };
+}
+
+fn draw(start: &[f64]) {
+    DRAWN.set(start.to_vec());
+}
+
+pub struct StdRng;
+
+impl StdRng {
+    fn seed_from_u64(_seed: u64) -> StdRng {
+        StdRng
+    }
+}
+
+/// The lines of document 000's own, but for where the vector comes from.
+fn random_unit_vector(n: usize, _rng: &mut StdRng) -> Array1<f64> {
+    let mut v = Array1::from_vec(DRAWN.with_borrow(|drawn| drawn.clone()));
+    assert_eq!(v.len(), n);
+    let norm = v.dot(&v).sqrt();
+    if norm <= f64::EPSILON {
+        v = Array1::from_shape_fn(n, |_| 1.0 / (n as f64).sqrt());
+    } else {
+        v /= norm;
+    }
+    v
 }
 
 pub mod platform {
-    use super::{Error, black_box};
-    use crate::ndarray::{Array1, Array2};
+    use super::{Error, StdRng, black_box, random_unit_vector};
+    use crate::ndarray::{Array1, Array2, Parallelism, matvec};
     include!("document_000.rs");
+    include!("document_000_lanczos.rs");
     calls!();
 }
 
 pub mod by_01 {
-    use super::{Error, black_box};
+    use super::{Error, StdRng, black_box, random_unit_vector};
     use crate::hypot::Hypot;
-    use crate::ndarray::{Array1, Array2};
+    use crate::ndarray::{Array1, Array2, Parallelism, matvec};
     include!(env!("DOCUMENT_000_HYPOT01"));
+    include!("document_000_lanczos.rs");
     calls!();
 }
 
 pub mod by_02 {
-    use super::{Error, black_box};
+    use super::{Error, StdRng, black_box, random_unit_vector};
     use crate::hypot::Hypot;
-    use crate::ndarray::{Array1, Array2};
+    use crate::ndarray::{Array1, Array2, Parallelism, matvec};
     include!(env!("DOCUMENT_000_HYPOT02"));
+    include!("document_000_lanczos.rs");
     calls!();
 }

@@ -4,6 +4,7 @@
 ghost use mathlib.Core.Path.{_≡_};
 ghost use Rattle.eigen.specs.Eigen.{eigen};
 ghost use Rattle.steps.specs.Steps.{started, stepped, finished};
+ghost use Rattle.lanczos.specs.Lanczos.{lanczos};
 ghost use Rattle.svd.specs.Svd.{svd};
 ghost use Rattle.row.specs.Row.{rowSpan, extentOf};
 ghost use Rattle.solve.specs.Solve.{solve, pseudoInverse};
@@ -72,6 +73,24 @@ pub extern "C" fn crewelmarsh_eigen_finish_abi4(
     ensures { λ q. ⌜ (q, now (work .exit), now (result .exit)) ≡ finished run (now (work .entry)) (now (result .entry)) ⌝ }
 {
     run.finish(work, result)
+}
+
+// ---- the leading pairs alone
+
+#[no_mangle]
+pub extern "C" fn crewelmarsh_lanczos_abi4(
+    n: usize,
+    k: usize,
+    limit: usize,
+    edition: usize,
+    matrix: &[f64],
+    start: &[f64],
+    work: &mut [f64],
+    answer: &mut [f64],
+) -> Answer
+    ensures { λ r. ⌜ (r, now (work .exit), now (answer .exit)) ≡ lanczos n k limit edition (now (matrix .entry)) (now (start .entry)) (now (work .entry)) (now (answer .entry)) ⌝ }
+{
+    lanczos::lanczos(n, k, limit, edition, matrix, start, work, answer)
 }
 
 // ---- the others

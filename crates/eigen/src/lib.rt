@@ -85,7 +85,7 @@ pub fn mark0(n: usize, v: &[f64], d: &[f64], e: &[f64]) -> Bad
 }
 
 // The run after `tred2`.
-fn after_tred(
+pub fn after_tred(
     n: usize,
     limit: usize,
     edition: usize,

@@ -2,30 +2,29 @@
 -- `one-outcome`: the promise leaves room for one outcome. `lower-only`: what stands above the diagonal, and what work and result held before, change nothing.
 -- `limit-raised`: an outcome that is not refusal 9 is the outcome at every higher limit. `marks-only-stop`: where it is done, the result is document 000's own.
 use mathlib.Core.Path.{_≡_, sym, ap, _∙_, refl}
-use mathlib.Core.Bool.{Bool, true, false, cond, not}
+use mathlib.Core.Bool.{Bool, true, false, cond}
 use mathlib.Core.List.{_++_}
 use Prim.Native.Nat.{ℕ, _+_, _*_, _≤_, _<_}
 use native.Mathlib.Omega.{arith}
 use borrow.Author.Tests.{eqb-false}
-use lib.Dec.{ltb, eqb}
+use lib.Dec.{eqb}
 use lib.ListN.{length, length-replicate}
 use Rattle.grid.specs.Real.{Vec, zero64, zeros}
 use Rattle.grid.specs.Cell.{at2, entry}
 use Rattle.grid.specs.CellLaws.{Sized}
-use Rattle.leaves.specs.Scan.{isBad, firstBadLower}
+use Rattle.leaves.specs.Scan.{firstBadLower}
 use Rattle.leaves.specs.ScanLaws.{lower-same}
-use Rattle.answers.specs.Answers.{done, passed, limitGood, fittingEdition, refusal7}
-use Rattle.answers.specs.OutcomeLaws.{right-limit, Settled, always, by-test}
+use Rattle.answers.specs.Answers.{done, passed, refusal7}
 use Rattle.answers.specs.declared.Answer.{Answer}
 use Rattle.tred.specs.Tred.{tred2}
 use Rattle.tred.specs.Lower.{lower}
-use Rattle.told.specs.Limit.{tql2-limit}
-use Rattle.eigen.specs.Eigen.{columns, mark0, afterTred, decomposed, cleared, given, entered, eigen}
+use Rattle.eigen.specs.Eigen.{columns, afterTred, decomposed, cleared, given, entered, eigen}
 use Rattle.exact.specs.Copies.{columns-cell, columns-long}
 use Rattle.exact.specs.Document.{SymmetricEigen}
 use Rattle.exact.specs.DocumentLaws.{symmetric-eigen-once}
 use Rattle.exact.specs.Exact.{Outcome, Promised, Fit}
-use Rattle.exact.specs.ExactLaws.{enters, given-answer, done-document}
+use Rattle.exact.specs.ExactLaws.{enters, done-document}
+use Rattle.exact.specs.Limit.{eigen-limit}
 use Rattle.exact.specs.Result.{gave}
 
 one-outcome : (n limit edition : ℕ) (a work result : Vec) (x y : Outcome) → Promised n limit edition a work result x → Promised n limit edition a work result y → x ≡ y
@@ -83,33 +82,6 @@ lower-only-calls : (n limit edition : ℕ) (a b work result work′ result′ : 
 lower-only-calls n limit edition a b work result work′ result′ x y f g h p q = p ∙ lower-only n limit edition a b work result work′ result′ f g h ∙ sym q
 
 -- ---- a higher limit
-
-abbrev answer3 : Outcome → ℕ
-answer3 x = x .0 .answer
-
-abbrev answer4 : Answer × Vec × Vec × Vec → ℕ
-answer4 x = x .0 .answer
-
-tred-limit : (n edition k m : ℕ) (x : Vec × Vec × Vec) → 1 ≤ k → k ≤ m → Settled answer4 (afterTred n k edition x) (afterTred n m edition x)
-unfolding afterTred
-tred-limit n edition k m x z l = by-test answer4 (isBad (mark0 n (x .0) (x .1) (x .2))) _ refl (always answer4) (record { same = tql2-limit n edition k m x z l })
-
-given-limit : (n : ℕ) (x y : Answer × Vec × Vec × Vec) → Settled answer4 x y → Settled answer3 (given n x) (given n y)
-given-limit n x y s = record { same = λ h. ap (given n) (s .same (λ e. h (ap (λ (t : Answer). t .answer) (given-answer n x) ∙ e))) }
-
-entered-limit : (n edition k m : ℕ) (a : Vec) → 1 ≤ k → k ≤ m → Settled answer3 (entered n k edition a) (entered n m edition a)
-unfolding entered decomposed
-entered-limit n edition k m a z l =
-    by-test answer3 (passed (refusal7 (firstBadLower n a))) _ refl
-    (by-test answer3 (eqb n 0) _ refl (always answer3) (given-limit n _ _ (tred-limit n edition k m _ z l)))
-    (always answer3)
-
-eigen-limit : (n edition k m : ℕ) (a work result : Vec) → 1 ≤ k → k ≤ m → m ≤ 60 → Settled answer3 (eigen n k edition a work result) (eigen n m edition a work result)
-unfolding eigen
-eigen-limit n edition k m a work result z l s =
-    by-test answer3 (ltb 256 n) _ refl (always answer3)
-    (by-test answer3 (not (limitGood k)) _ (ap not (right-limit k z (omega arith) ∙ sym (right-limit m (omega arith) s))) (always answer3)
-    (by-test answer3 (passed (fittingEdition edition (length a) (n * n) (length work) n (length result) (n + n * n))) _ refl (entered-limit n edition k m a z l) (always answer3)))
 
 limit-raised : (n edition k m : ℕ) (a work result : Vec) → 1 ≤ k → k ≤ m → m ≤ 60 → (eigen n k edition a work result .0 .answer ≡ 9 → ⊥)
     → eigen n m edition a work result ≡ eigen n k edition a work result

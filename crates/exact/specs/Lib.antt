@@ -6,6 +6,7 @@ pub mod DocumentLaws
 pub mod Exact
 pub mod ExactLaws
 pub mod Index
+pub mod Limit
 pub mod Result
 pub mod Old
 pub mod Edition

@@ -18,7 +18,7 @@ pub fn column_of(m: usize, k: usize, q: &[f64], j: usize, c: &mut [f64])
     }
 }
 
-fn dot(m: usize, b: &[f64], c: &[f64]) -> f64
+pub fn dot(m: usize, b: &[f64], c: &[f64]) -> f64
     requires { ⌜ (length (now b) ≡ m) × (length (now c) ≡ m) ⌝ }
     ensures { λ r. ⌜ r ≡ dot m (now (b .entry)) (now (c .entry)) ⌝ }
 {

@@ -15,7 +15,7 @@ use grid::put1;
 use leaves::class_of;
 use leaves::is_finite;
 
-fn over(m: usize, by: f64, c: &mut [f64])
+pub fn over(m: usize, by: f64, c: &mut [f64])
     requires { ⌜ length (now c) ≡ m ⌝ }
     ensures { λ _. ⌜ now (c .exit) ≡ over m by (now (c .entry)) ⌝ }
 {

@@ -1,0 +1,73 @@
+-- Generated from the answers file beside it by tools/prove/prove.py: edit that.
+-- `krylov::steps` meets its contract.
+use mathlib.Core.Path.{_≡_, refl}
+use Prim.Native.Nat.{_-_, _≤_}
+use native.Mathlib.Omega.{arith}
+use borrow.Author.Needs.{needs}
+use lib.ListN.{length}
+use Rattle.grid.specs.Loop.{upto}
+use Rattle.grid.specs.LoopLaws.{start, next, done}
+use mathlib.Core.Bool.{true}
+use Rattle.answers.specs.Answers as Answers
+use Rattle.symmetric.specs.Sides.{Mirror}
+use Rattle.krylov.specs.Krylov.{went, turn, steps}
+use Rattle.krylov.proofs.steps.Statement.{statement}
+use Rattle.krylov.proofs.steps.Tie as tie
+
+abbrev Inv-loop : tie.InvT-loop
+Inv-loop n s a q₀ al₀ be₀ v₀ w₀ mirror r₀ j₀ q al be v w r j = (j ≤ s) × (length q ≡ length q₀) × (length v ≡ length v₀) × (length w ≡ length w₀) × (mirror ≡ true → Mirror n a) × ((r, q, al, be, v) ≡ upto (turn n a) 0 j (went true (Answers.done 0) 0, q₀, al₀, be₀, v₀))
+
+abbrev μ-loop : tie.MeasureT-loop
+μ-loop n s a q₀ al₀ be₀ v₀ w₀ mirror r₀ j₀ q al be v w r j = s - j
+
+mirrored-requires : tie.Need-mirrored-requires Inv-loop μ-loop
+mirrored-requires c κs = search needs
+
+done-requires : tie.Need-done-requires Inv-loop μ-loop
+done-requires c κs = search needs
+
+loop-holds : tie.Need-loop-holds Inv-loop μ-loop
+loop-holds c = (omega arith, refl, refl, refl, c .before .mirrored .ensures, rw (c .done .ensures) (start _ _ _))
+
+turn-requires : tie.Need-turn-requires Inv-loop μ-loop
+turn-requires c κs = (omega arith, omega arith, omega arith, c .before .before .before .before .before .before .loop .inv .4, omega arith, omega arith, omega arith, omega arith)
+
+add-j : tie.Need-add-j Inv-loop μ-loop
+add-j c = omega arith
+
+loop-less : tie.Need-loop-less Inv-loop μ-loop
+loop-less c = omega arith
+
+loop-again : tie.Need-loop-again Inv-loop μ-loop
+loop-again c = (omega arith, omega arith, omega arith, omega arith, c .before .before .before .before .before .before .before .before .before .before .before .before .before .loop .inv .4, next _ _ _ _ (omega arith) (c .before .before .before .before .before .before .before .before .before .before .before .before .before .loop .inv .5) (c .before .before .before .before .before .before .turn .ensures))
+
+same-length : tie.Need-same-length Inv-loop μ-loop
+same-length c = omega arith
+
+same-length-2 : tie.Need-same-length-2 Inv-loop μ-loop
+same-length-2 c = omega arith
+
+same-length-3 : tie.Need-same-length-3 Inv-loop μ-loop
+same-length-3 c = omega arith
+
+returns : tie.Need-returns Inv-loop μ-loop
+unfolding steps
+returns c = done _ _ _ (omega arith) (omega arith) (c .before .loop .inv .5)
+
+pub steps-spec : {M : Type 1} → statement M
+steps-spec =
+    tie.close
+    (tie.spec
+    Inv-loop
+    μ-loop
+    mirrored-requires
+    done-requires
+    loop-holds
+    turn-requires
+    add-j
+    loop-less
+    loop-again
+    same-length
+    same-length-2
+    same-length-3
+    returns)

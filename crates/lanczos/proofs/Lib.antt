@@ -1,0 +1,3 @@
+-- Lemmas of the proofs: what the run is lent, what the checks leave.
+mod Sizes
+mod Checked

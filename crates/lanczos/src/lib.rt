@@ -1,0 +1,133 @@
+// The leading eigenpairs of a symmetric matrix by one Lanczos run from a given start vector: the call.
+ghost use mathlib.Core.Path.{_≡_};
+ghost use mathlib.Core.List.{_++_};
+ghost use Prim.Native.Nat.{_+_, _*_, _≤_};
+ghost use lib.ListN.{length};
+ghost use Rattle.leaves.specs.Scan.{firstBad};
+ghost use Rattle.lanczosrun.specs.Fits.{Called, Fit};
+ghost use Rattle.lanczos.specs.Lanczos.{workLength, checks, entered, lanczos};
+use answers::Answer;
+use answers::done;
+use answers::edition_good;
+use answers::lengths;
+use answers::limit_good;
+use answers::refusal7;
+use answers::refused;
+use grid::LARGEST;
+use grid::fill;
+use lanczosrun::run;
+use lanczosrun::size;
+use leaves::Bad;
+use leaves::behind;
+use leaves::first_bad;
+use leaves::is_bad;
+
+fn work_length(n: usize, k: usize) -> usize
+    requires { ⌜ (n ≤ 256) × (k ≤ 256) ⌝ }
+    ensures { λ r. ⌜ r ≡ workLength n k ⌝ }
+{
+    let s = size(n, k);
+    s * n + 2 * n + 2 * s * s + 4 * s
+}
+
+fn checks(
+    n: usize,
+    k: usize,
+    limit: usize,
+    edition: usize,
+    a: usize,
+    b: usize,
+    work: usize,
+    x: usize,
+) -> Answer
+    ensures { λ r. ⌜ r ≡ checks n k limit edition a b work x ⌝ }
+{
+    if n > LARGEST {
+        return refused(1, 0);
+    }
+    if !limit_good(limit) {
+        return refused(2, 0);
+    }
+    if !edition_good(edition) {
+        return refused(12, 0);
+    }
+    if n == 0 {
+        return refused(14, 0);
+    }
+    if k > n {
+        return refused(15, 0);
+    }
+    let first = lengths(a, n * n, b, n, work, work_length(n, k));
+    if first.answer != 0 {
+        return first;
+    }
+    if x != k + k * n {
+        return refused(6, 3);
+    }
+    done(0)
+}
+
+// The first number that is not finite in the matrix, or else in the start vector, counted on behind the matrix.
+fn scan(a: &[f64], b: &[f64]) -> Bad
+    requires { ⌜ (length (now a) ≤ 65536) × (length (now b) ≤ 256) ⌝ }
+    ensures { λ r. ⌜ r ≡ firstBad (now (a .entry) ++ now (b .entry)) ⌝ }
+{
+    let first = first_bad(a);
+    if is_bad(first) {
+        return first;
+    }
+    behind(a.len(), first_bad(b))
+}
+
+// The call after its checks of sizes, limit, edition and lengths.
+fn enter(
+    n: usize,
+    k: usize,
+    limit: usize,
+    edition: usize,
+    a: &[f64],
+    b: &[f64],
+    work: &mut [f64],
+    x: &mut [f64],
+) -> Answer
+    requires { ⌜ Called limit edition × Fit n k × (length (now a) ≡ n * n) × (length (now b) ≡ n) × (length (now work) ≡ workLength n k) × (length (now x) ≡ k + k * n) ⌝ }
+    ensures { λ r. ⌜ (r, now (work .exit), now (x .exit)) ≡ entered n k limit edition (now (a .entry)) (now (b .entry)) (now (work .entry)) ⌝ }
+{
+    fill(work);
+    fill(x);
+    let bad = refusal7(scan(a, b));
+    if bad.answer != 0 {
+        return bad;
+    }
+    let r = run(n, k, limit, edition, a, b, work, x);
+    fill(work);
+    r
+}
+
+pub fn lanczos(
+    n: usize,
+    k: usize,
+    limit: usize,
+    edition: usize,
+    matrix: &[f64],
+    start: &[f64],
+    work: &mut [f64],
+    answer: &mut [f64],
+) -> Answer
+    ensures { λ r. ⌜ (r, now (work .exit), now (answer .exit)) ≡ lanczos n k limit edition (now (matrix .entry)) (now (start .entry)) (now (work .entry)) (now (answer .entry)) ⌝ }
+{
+    let check = checks(
+        n,
+        k,
+        limit,
+        edition,
+        matrix.len(),
+        start.len(),
+        work.len(),
+        answer.len(),
+    );
+    if check.answer != 0 {
+        return check;
+    }
+    enter(n, k, limit, edition, matrix, start, work, answer)
+}

@@ -1,0 +1,84 @@
+-- Generated from the answers file beside it by tools/prove/prove.py: edit that.
+-- `lanczosruns::fitted` meets its contract. Each part ends within its array, as the tests say.
+use mathlib.Core.Path.{sym}
+use borrow.Author.Needs.{needs}
+use lib.Seq.{length-take-le}
+use Rattle.lanczosruns.proofs.fitted.Statement.{statement}
+use Rattle.lanczosruns.proofs.fitted.Tie as tie
+
+returns : tie.Need-returns
+returns c = search needs
+
+returns-2 : tie.Need-returns-2
+returns-2 c = search needs
+
+returns-3 : tie.Need-returns-3
+returns-3 c = search needs
+
+returns-4 : tie.Need-returns-4
+returns-4 c = search needs
+
+slice-relend-prefix-case : tie.Need-slice-relend-prefix-case
+slice-relend-prefix-case c = search needs
+
+slice-aggregate-case : tie.Need-slice-aggregate-case
+slice-aggregate-case c = sym (length-take-le _ _ (c .before .before .before .before .if1 .left))
+
+slice-relend-prefix-case-2 : tie.Need-slice-relend-prefix-case-2
+slice-relend-prefix-case-2 c = search needs
+
+slice-aggregate-case-2 : tie.Need-slice-aggregate-case-2
+slice-aggregate-case-2 c = sym (length-take-le _ _ (c .before .before .before .before .if2 .left))
+
+slice-relend-prefix-case-3 : tie.Need-slice-relend-prefix-case-3
+slice-relend-prefix-case-3 c = search needs
+
+slice-aggregate-case-3 : tie.Need-slice-aggregate-case-3
+slice-aggregate-case-3 c = sym (length-take-le _ _ (c .before .before .before .before .if3 .left))
+
+slice-relend-prefix-case-4 : tie.Need-slice-relend-prefix-case-4
+slice-relend-prefix-case-4 c = search needs
+
+slice-aggregate-case-4 : tie.Need-slice-aggregate-case-4
+slice-aggregate-case-4 c = sym (length-take-le _ _ (c .before .before .before .before .if4 .left))
+
+case-requires : tie.Need-case-requires
+case-requires c κs = search needs
+
+same-length : tie.Need-same-length
+same-length c = search needs
+
+same-length-2 : tie.Need-same-length-2
+same-length-2 c = search needs
+
+same-length-3 : tie.Need-same-length-3
+same-length-3 c = search needs
+
+same-length-4 : tie.Need-same-length-4
+same-length-4 c = search needs
+
+returns-5 : tie.Need-returns-5
+returns-5 c = search needs
+
+pub fitted-spec : {M : Type 1} → statement M
+fitted-spec =
+    tie.close
+    (tie.spec
+    returns
+    returns-2
+    returns-3
+    returns-4
+    slice-relend-prefix-case
+    slice-aggregate-case
+    slice-relend-prefix-case-2
+    slice-aggregate-case-2
+    slice-relend-prefix-case-3
+    slice-aggregate-case-3
+    slice-relend-prefix-case-4
+    slice-aggregate-case-4
+    case-requires
+    same-length
+    same-length-2
+    same-length-3
+    same-length-4
+    returns-5)

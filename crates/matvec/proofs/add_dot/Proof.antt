@@ -1,0 +1,69 @@
+-- Generated from the answers file beside it by tools/prove/prove.py: edit that.
+-- `matvec::add_dot` meets its contract.
+use mathlib.Core.Path.{_≡_, refl}
+use Prim.Native.Nat.{_-_, _≤_}
+use native.Mathlib.Omega.{arith}
+use borrow.Author.Needs.{needs}
+use lib.ListN.{length}
+use Rattle.grid.specs.Loop.{upto}
+use Rattle.grid.specs.LoopLaws.{start, next}
+use Rattle.gram.specs.Gram.{dotStep}
+use Rattle.grid.specs.Real.{zero64}
+use Rattle.matvec.specs.Matvec.{addStep, added}
+use Rattle.matvec.specs.Rows.{at-turn, add-dot-done}
+use denote.Ref.{now}
+use Rattle.matvec.proofs.add_dot.Statement.{statement}
+use Rattle.matvec.proofs.add_dot.Tie as tie
+
+abbrev Inv-loop : tie.InvT-loop
+Inv-loop n f u w₀ t acc₀ i₀ w acc i = (i ≤ n) × (length w ≡ length w₀) × (w ≡ upto (addStep f u) 0 i w₀) × (acc ≡ upto (dotStep (added n f u w₀) t) 0 i zero64)
+
+abbrev μ-loop : tie.MeasureT-loop
+μ-loop n f u w₀ t acc₀ i₀ w acc i = n - i
+
+loop-holds : tie.Need-loop-holds Inv-loop μ-loop
+loop-holds c = (omega arith, refl, start _ _ _, start _ _ _)
+
+at1-requires : tie.Need-at1-requires Inv-loop μ-loop
+at1-requires c κs = search needs
+
+at1-requires-2 : tie.Need-at1-requires-2 Inv-loop μ-loop
+at1-requires-2 c κs = search needs
+
+put1-requires : tie.Need-put1-requires Inv-loop μ-loop
+put1-requires c κs = search needs
+
+at1-requires-3 : tie.Need-at1-requires-3 Inv-loop μ-loop
+at1-requires-3 c κs = search needs
+
+add-i : tie.Need-add-i Inv-loop μ-loop
+add-i c = omega arith
+
+loop-less : tie.Need-loop-less Inv-loop μ-loop
+loop-less c = omega arith
+
+loop-again : tie.Need-loop-again Inv-loop μ-loop
+loop-again c = (omega arith, omega arith, next _ _ _ _ (omega arith) (c .before .before .before .before .before .before .before .before .before .loop .inv .2) (rw (c .before .before .before .put1 .ensures, c .before .before .before .before .before .before .at1 .ensures, c .before .before .before .before .before .at12 .ensures)), next _ _ _ _ (omega arith) (c .before .before .before .before .before .before .before .before .before .loop .inv .3) (rw (← at-turn (c .before .before .before .before .before .before .before .before .before .before .before .before .before .args .n) (c .before .before .before .before .before .before .before .before .before .before .before .before .before .args .f) (now (c .before .before .before .before .before .before .before .before .before .before .before .before .before .args .u)) (now (c .before .before .before .before .before .before .before .before .before .before .before .before .before .args .w)) (c .before .before .before .before .before .before .before .before .before .loop .i) (c .before .before .before .before .before .before .before .before .loop-test .taken) (c .before .before .before .before .before .before .before .before .before .before .before .before .before .pre .1) (c .before .before .before .before .before .before .before .before .before .loop .inv .2), c .before .before .before .before .before .before .at1 .ensures, c .before .before .before .before .before .at12 .ensures, c .at13 .ensures)))
+
+same-length : tie.Need-same-length Inv-loop μ-loop
+same-length c = omega arith
+
+returns : tie.Need-returns Inv-loop μ-loop
+returns c = add-dot-done (c .before .before .before .before .before .args .n) (c .before .before .before .before .before .args .f) (now (c .before .before .before .before .before .args .u)) (now (c .before .before .before .before .before .args .t)) (now (c .before .before .before .before .before .args .w)) (c .before .loop .i) (c .before .loop .inv .0) (omega arith) (c .before .loop .inv .2) (c .before .loop .inv .3)
+
+pub add-dot-spec : {M : Type 1} → statement M
+add-dot-spec =
+    tie.close
+    (tie.spec
+    Inv-loop
+    μ-loop
+    loop-holds
+    at1-requires
+    at1-requires-2
+    put1-requires
+    at1-requires-3
+    add-i
+    loop-less
+    loop-again
+    same-length
+    returns)

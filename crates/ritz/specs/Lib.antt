@@ -1,0 +1,2 @@
+-- The pairs from the small problem's values and vectors.
+pub mod Ritz

@@ -1,0 +1,129 @@
+// The leading Ritz pairs of document 000's Lanczos: k values, then k rows of n numbers.
+ghost use mathlib.Core.Path.{_≡_};
+ghost use Prim.Native.Nat.{_+_, _*_, _<_, _≤_};
+ghost use lib.ListN.{length};
+ghost use Rattle.order.specs.Rank.{Below};
+ghost use Rattle.ritz.specs.Ritz.{ritz, levelled, pair, pairs, looked, selected};
+use answers::Answer;
+use answers::answered;
+use answers::least;
+use answers::marked;
+use gram::norm;
+use grid::EPSILON;
+use grid::LARGEST;
+use grid::at1;
+use grid::copy;
+use grid::entry;
+use grid::fill;
+use grid::put1;
+use leaves::first_bad;
+use leaves::is_bad;
+use matvec::add;
+use order::note;
+use unit::over;
+
+fn ritz(n: usize, s: usize, m: usize, q: &[f64], vecs: &[f64], c: usize, x: &mut [f64])
+    requires { ⌜ (m ≤ s) × (c < m) × (length (now q) ≡ s * n) × (length (now vecs) ≡ m * m) × (length (now x) ≡ n) ⌝ }
+    ensures { λ _. ⌜ now (x .exit) ≡ ritz n m (now (q .entry)) (now (vecs .entry)) c ⌝ }
+{
+    fill(x);
+    for j in 0..m {
+        let f = j * n;
+        let e = f + n;
+        let by = entry(vecs, m, m, j, c);
+        add(n, by, &q[f..e], x);
+    }
+}
+
+// c over its norm, where that is above EPSILON.
+fn norm_out(n: usize, c: &mut [f64])
+    requires { ⌜ length (now c) ≡ n ⌝ }
+    ensures { λ _. ⌜ now (c .exit) ≡ levelled n (now (c .entry)) ⌝ }
+{
+    let by = norm(n, c);
+    if by > EPSILON {
+        over(n, by, c);
+    }
+}
+
+// Value t, and row t behind the k values, are those of the small problem's place c. y is scratch.
+fn pair(
+    n: usize,
+    s: usize,
+    k: usize,
+    m: usize,
+    q: &[f64],
+    vals: &[f64],
+    vecs: &[f64],
+    c: usize,
+    t: usize,
+    y: &mut [f64],
+    x: &mut [f64],
+)
+    requires { ⌜ (t < k) × (m ≤ s) × (c < m) × (length (now q) ≡ s * n) × (length (now vals) ≡ m) × (length (now vecs) ≡ m * m) × (length (now y) ≡ n) × (length (now x) ≡ k + k * n) ⌝ }
+    ensures { λ _. ⌜ now (x .exit) ≡ pair n k m (now (q .entry)) (now (vals .entry)) (now (vecs .entry)) c t (now (x .entry)) ⌝ }
+{
+    put1(x, t, at1(vals, c));
+    ritz(n, s, m, q, vecs, c, y);
+    norm_out(n, y);
+    let f = k + t * n;
+    let e = f + n;
+    copy(y, &mut x[f..e]);
+}
+
+fn pairs(
+    n: usize,
+    s: usize,
+    k: usize,
+    m: usize,
+    found: usize,
+    q: &[f64],
+    vals: &[f64],
+    vecs: &[f64],
+    o: &[usize; LARGEST],
+    y: &mut [f64],
+    x: &mut [f64],
+)
+    requires { ⌜ (found ≤ k) × (found ≤ m) × (m ≤ s) × (m ≤ 256) × Below m (now o) × (length (now q) ≡ s * n) × (length (now vals) ≡ m) × (length (now vecs) ≡ m * m) × (length (now y) ≡ n) × (length (now x) ≡ k + k * n) ⌝ }
+    ensures { λ _. ⌜ now (x .exit) ≡ pairs n k m found (now (q .entry)) (now (vals .entry)) (now (vecs .entry)) (now (o .entry)) (now (x .entry)) ⌝ }
+{
+    for t in 0..found {
+        let c = o[t];
+        pair(n, s, k, m, q, vals, vecs, c, t, y, x);
+    }
+}
+
+// The whole answer is looked at.
+fn look(found: usize, count: usize, x: &mut [f64]) -> Answer
+    ensures { λ r. ⌜ (r, now (x .exit)) ≡ looked found count (now (x .entry)) ⌝ }
+{
+    let b = first_bad(x);
+    if is_bad(b) {
+        fill(x);
+        return marked(6, count, b);
+    }
+    answered(0, found, 0, count)
+}
+
+// The pairs with the greatest values, in descending order.
+pub fn select(
+    n: usize,
+    s: usize,
+    k: usize,
+    m: usize,
+    count: usize,
+    q: &[f64],
+    vals: &[f64],
+    vecs: &[f64],
+    x: &mut [f64],
+) -> Answer
+    requires { ⌜ (n ≤ 256) × (m ≤ s) × (m ≤ 256) × (length (now q) ≡ s * n) × (length (now vals) ≡ m) × (length (now vecs) ≡ m * m) × (length (now x) ≡ k + k * n) ⌝ }
+    ensures { λ r. ⌜ (r, now (x .exit)) ≡ selected n k m count (now (q .entry)) (now (vals .entry)) (now (vecs .entry)) (now (x .entry)) ⌝ }
+{
+    let mut o = [0usize; LARGEST];
+    let mut y = [0.0f64; LARGEST];
+    note(vals, 0, m, &mut o);
+    let found = least(k, m);
+    pairs(n, s, k, m, found, q, vals, vecs, &o, &mut y[..n], x);
+    look(found, count, x)
+}

@@ -1,0 +1,44 @@
+-- Generated from the answers file beside it by tools/prove/prove.py: edit that.
+-- `symmetric::same` meets its contract.
+use mathlib.Core.Path.{_≡_, _∙_, refl, sym, ap, subst}
+use mathlib.Core.Bool.{Bool, true, false, not, true≢false}
+use lib.Dec.{T}
+use lib.Ieee.{Float, nan, inf, fin, ne, isNan, binary64, fits, ofBits, toBits}
+use lib.Ieee.Compare.{nan-differs}
+use lib.Ieee.Bits.{ofBits-toBits}
+use borrow.Author.Tests.{eqb-true}
+use Rattle.symmetric.proofs.same.Statement.{statement}
+use Rattle.symmetric.proofs.same.Tie as tie
+
+is-no-nan : (x : Float) → ne x x ≡ false → isNan x ≡ false
+is-no-nan nan h = absurd (true≢false (sym nan-differs ∙ h))
+is-no-nan (inf s) h = unfold isNan in refl
+is-no-nan (fin s m e) h = unfold isNan in refl
+
+held-x : (c : tie.Start) → T (fits binary64 (c .args .x))
+held-x c = subst T (sym (c .good .0 .1)) tt
+
+held-y : (c : tie.Start) → T (fits binary64 (c .args .y))
+held-y c = subst T (sym (c .good .1 .0 .1)) tt
+
+from-bits : (x y : Float) → T (fits binary64 x) → T (fits binary64 y) → toBits binary64 x ≡ toBits binary64 y → x ≡ y
+from-bits x y f g e = sym (ofBits-toBits binary64 x f) ∙ ap (ofBits binary64) e ∙ ofBits-toBits binary64 y g
+
+returns : tie.Need-returns
+returns c = λ e. absurd (true≢false (sym e))
+
+returns-2 : tie.Need-returns-2
+returns-2 c = λ e. absurd (true≢false (sym e))
+
+float-to-bits-result : tie.Need-float-to-bits-result
+float-to-bits-result c = subst (λ (t : Bool). T (not t)) (sym (is-no-nan (c .before .before .args .x) (c .before .if1 .left))) tt
+
+float-to-bits-result-2 : tie.Need-float-to-bits-result-2
+float-to-bits-result-2 c = subst (λ (t : Bool). T (not t)) (sym (is-no-nan (c .before .before .args .y) (c .if2 .left))) tt
+
+returns-3 : tie.Need-returns-3
+returns-3 c = λ e. from-bits (c .before .before .args .x) (c .before .before .args .y) (held-x (c .before .before)) (held-y (c .before .before)) (eqb-true _ _ e)
+
+pub same-spec : {M : Type 1} → statement M
+same-spec =
+    tie.close (tie.spec returns returns-2 float-to-bits-result float-to-bits-result-2 returns-3)
