@@ -1,4 +1,4 @@
-/* `leaves::root` as it is compiled (oracle/root.sh) beside the processor's own root and what stood in its place before (oracle/root_former.c): each held to the
+/* `root::root` as it is compiled (oracle/root.sh) beside the processor's own root and what stood in its place before (oracle/root_former.c): each held to the
    processor's on random numbers, and the times of all in one run; and of both editions of hypot. root COUNT. */
 #define _POSIX_C_SOURCE 199309L
 #include <stdint.h>
@@ -7,7 +7,7 @@
 #include <string.h>
 #include <time.h>
 
-double leaves_root(double x);
+double root_root(double x);
 double leaves_hypot(double x, double y);
 double hypot2_hypot2(double x, double y);
 double former_root(double x);
@@ -53,7 +53,7 @@ static unsigned long hold(const char *what, unsigned long count, uint64_t (*draw
     unsigned long i, wrong = 0;
     for (i = 0; i < count; i++) {
         double x = from_bits(draw()), y = own_root(x);
-        wrong += !same(leaves_root(x), y) || !same(former_root(x), y) || !same(factor_root(x), y);
+        wrong += !same(root_root(x), y) || !same(former_root(x), y) || !same(factor_root(x), y);
     }
     printf("%s: %lu numbers, %lu differ from the processor's root\n", what, count, wrong);
     return wrong;
@@ -144,7 +144,7 @@ int main(int words, char **word)
     time_of("the processor's instruction", own_root);
     time_of("before: a guess, tested in whole numbers", former_root);
     time_of("before, where the guess was not enough: the digit as a factor", factor_root);
-    time_of("the root: a select for each digit", leaves_root);
+    time_of("the root: a select for each digit", root_root);
     time_of("hypot, edition 1", hypot_1);
     time_of("hypot, edition 2", hypot_2);
     return wrong != 0;

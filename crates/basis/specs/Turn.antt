@@ -10,7 +10,7 @@ use lib.Ieee.{Float, binary64, ofBits, fits, eq, le}
 use lib.Ieee.Fits.{add-fits, mul-fits}
 use Rattle.grid.specs.LoopLaws.{upto-keeps}
 use Rattle.grid.specs.Real.{Vec, at, zero64, one64, two64, epsilon, _⊕_, _⊖_, _⊗_, _⊘_}
-use Rattle.leaves.specs.Root.{root}
+use Rattle.root.specs.Root.{root}
 use Rattle.leaves.specs.Leaf.{magnitude}
 use Rattle.sweep.specs.declared.Sums.{Sums}
 use Rattle.sweep.specs.declared.Rotation.{Rotation}

@@ -15,8 +15,8 @@ use lib.Seq.{getD-set-other}
 use Rattle.grid.specs.Loop.{upto}
 use Rattle.grid.specs.LoopLaws.{upto-both}
 use Rattle.grid.specs.Real.{Vec, at, zero64, _⊗_, _⊘_}
-use Rattle.leaves.specs.Root.{root}
-use Rattle.leaves.specs.Nearest.{counted}
+use Rattle.root.specs.Root.{root}
+use Rattle.root.specs.Nearest.{counted}
 use Rattle.leaves.specs.declared.Bad.{Bad}
 use Rattle.answers.specs.Answers.{passed, marked}
 use Rattle.answers.specs.declared.Answer.{Answer}

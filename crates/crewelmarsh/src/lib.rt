@@ -272,7 +272,7 @@ pub extern "C" fn crewelmarsh_store_setup_abi4(
 ) -> Answer
     ensures { λ r. ⌜ (r, now (list .exit)) ≡ setUp2 (now (list .entry)) (now (tiles .entry)) (now (bytes .entry)) quota0 quota1 ⌝ }
 {
-    owners::set_up(quota0, quota1, list, tiles, bytes)
+    quotas::set_up(quota0, quota1, list, tiles, bytes)
 }
 
 #[no_mangle]
@@ -283,7 +283,7 @@ pub extern "C" fn crewelmarsh_store_reset_abi4(
 ) -> Answer
     ensures { λ r. ⌜ (r, now (list .exit)) ≡ reset (now (list .entry)) (now (tiles .entry)) (now (bytes .entry)) ⌝ }
 {
-    owners::reset(list, tiles, bytes)
+    quotas::reset(list, tiles, bytes)
 }
 
 #[no_mangle]

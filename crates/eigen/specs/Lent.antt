@@ -11,7 +11,8 @@ use lib.Seq.{take-all, take-at, drop-at, length-take-le}
 use Rattle.grid.specs.Real.{Vec, zero64, zeros}
 use Rattle.answers.specs.Answers.{passed}
 use Rattle.answers.specs.declared.Answer.{Answer}
-use Rattle.eigen.specs.Eigen.{rows, decomposed, given, cleared}
+use Rattle.layout.specs.Layout.{rows}
+use Rattle.eigen.specs.Eigen.{decomposed, given, cleared}
 
 -- after the run: where it is done the vectors stand row by row
 unfoldable pub outward : ℕ → Answer × Vec × Vec × Vec → Answer × Vec × Vec × Vec

@@ -5,7 +5,7 @@ ghost use Prim.Native.Nat.{_+_, _*_, _<_, _≤_};
 ghost use lib.ListN.{length, drop};
 ghost use Rattle.grid.specs.Real.{zeros};
 ghost use Rattle.grid.specs.CellLaws.{Sized};
-ghost use Rattle.eigen.specs.Eigen.{copyRow, columns, mirrorRow, rows, mark0, afterTred, decomposed, given, entered, eigen};
+ghost use Rattle.eigen.specs.Eigen.{mark0, afterTred, decomposed, given, entered, eigen};
 ghost use Rattle.eigen.specs.Lent.{outward, laid};
 use answers::Answer;
 use answers::done;
@@ -15,12 +15,11 @@ use answers::marked;
 use answers::refusal7;
 use answers::refused;
 use grid::LARGEST;
-use grid::at;
 use grid::at1;
-use grid::entry;
 use grid::fill;
-use grid::put;
 use grid::put1;
+use layout::columns;
+use layout::rows;
 use leaves::Bad;
 use leaves::behind;
 use leaves::first_bad_cell;
@@ -29,49 +28,6 @@ use leaves::is_bad;
 use pass::mark1;
 use ql::tql2;
 use tred2::tred2;
-
-// Row i of the matrix a into row i of v.
-fn copy_row(n: usize, i: usize, a: &[f64], v: &mut [f64])
-    requires { ⌜ (i < n) × (length (now a) ≡ n * n) × (length (now v) ≡ n * n) ⌝ }
-    ensures { λ _. ⌜ now (v .exit) ≡ copyRow n (now (a .entry)) i (now (v .entry)) ⌝ }
-{
-    for j in 0..n {
-        put(v, n, n, i, j, entry(a, n, n, i, j));
-    }
-}
-
-// The whole matrix, which stands row by row, into v, which stands column by column.
-pub fn columns(n: usize, a: &[f64], v: &mut [f64])
-    requires { ⌜ (length (now a) ≡ n * n) × (length (now v) ≡ n * n) ⌝ }
-    ensures { λ _. ⌜ now (v .exit) ≡ columns n (now (a .entry)) (now (v .entry)) ⌝ }
-{
-    for i in 0..n {
-        copy_row(n, i, a, v);
-    }
-}
-
-// The cells of row i left of the diagonal change places with their mirrors.
-fn mirror_row(n: usize, i: usize, v: &mut [f64])
-    requires { ⌜ (i < n) × (length (now v) ≡ n * n) ⌝ }
-    ensures { λ _. ⌜ now (v .exit) ≡ mirrorRow n i (now (v .entry)) ⌝ }
-{
-    for j in 0..i {
-        let x = at(v, n, n, i, j);
-        let y = at(v, n, n, j, i);
-        put(v, n, n, i, j, y);
-        put(v, n, n, j, i, x);
-    }
-}
-
-// v, which stands column by column, comes to stand row by row.
-pub fn rows(n: usize, v: &mut [f64])
-    requires { ⌜ length (now v) ≡ n * n ⌝ }
-    ensures { λ _. ⌜ now (v .exit) ≡ rows n (now (v .entry)) ⌝ }
-{
-    for i in 0..n {
-        mirror_row(n, i, v);
-    }
-}
 
 // Mark 0.
 pub fn mark0(n: usize, v: &[f64], d: &[f64], e: &[f64]) -> Bad

@@ -8,7 +8,7 @@ use Rattle.grid.specs.Real.{Vec, zeros}
 use Rattle.grid.specs.Cell.{at2, entry}
 use Rattle.tred.specs.Tred.{tred2}
 use Rattle.told.specs.Document.{Tql2}
-use Rattle.eigen.specs.Eigen.{columns}
+use Rattle.layout.specs.Layout.{columns}
 
 -- n above 0. v starts as the whole matrix, d and e as zeros; the values are d in the end, and entry (i, j) of the vectors is cell (i, j) of v
 pub record Computed (n edition : ℕ) (a values vectors : Vec) : Type 0 where

@@ -15,11 +15,12 @@ use Rattle.answers.specs.Answers.{answered, done}
 use Rattle.answers.specs.Index.{Class}
 use Rattle.answers.specs.declared.Answer.{Answer}
 use Rattle.tred.specs.Tred.{tred2}
-use Rattle.ql.specs.Ql.{sorted}
+use Rattle.sort.specs.Sort.{sorted}
 use Rattle.told.specs.Document.{Carried, begun}
 use Rattle.told.specs.Told.{FirstIn, list1, list2, End, bad, Turned, Ran, Whole, Told}
 use Rattle.told.specs.Arranged.{Permutation}
-use Rattle.eigen.specs.Eigen.{columns, cleared, given, eigen}
+use Rattle.layout.specs.Layout.{columns}
+use Rattle.eigen.specs.Eigen.{cleared, given, eigen}
 
 -- what a call gives: its answer, work and result afterwards
 abbrev pub Outcome : Type 0

@@ -20,13 +20,15 @@ use Rattle.answers.specs.EditionLaws.{right-edition, edition-lengths}
 use Rattle.answers.specs.Index.{Class}
 use Rattle.answers.specs.declared.Answer.{Answer}
 use Rattle.tred.specs.Sizes.{tred2-square, tred2-diagonal, tred2-beside}
-use Rattle.ql.specs.Ql.{sorted, tql2}
+use Rattle.sort.specs.Sort.{sorted}
+use Rattle.ql.specs.Ql.{tql2}
 use Rattle.told.specs.Document.{Carried, begun}
 use Rattle.told.specs.Long.{tql2-square}
 use Rattle.told.specs.Told.{FirstIn, list1, list2, bad, used, Turned, Ran, Whole, Told, well, at-mark2, at-mark1, at-limit}
 use Rattle.told.specs.ToldLaws.{first-class, class-above, none-first, one-first, mark1-sees, told-once, ran-document}
 use Rattle.told.specs.Marks.{told}
-use Rattle.eigen.specs.Eigen.{mark0, afterTred, decomposed, cleared, given, entered, eigen, rows}
+use Rattle.eigen.specs.Eigen.{mark0, afterTred, decomposed, cleared, given, entered, eigen}
+use Rattle.layout.specs.Layout.{rows}
 use Rattle.exact.specs.Exact.{Outcome, Fit, Taken, reduced, list0, Reduced, Reached, Done, empty, worked, Halted, Broken0, Broken2, Says, nothing, at-mark0, runs, finishedWith, Some}
 use Rattle.exact.specs.Document as Doc
 use Rattle.exact.specs.DocumentLaws.{same-vectors}

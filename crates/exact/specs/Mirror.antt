@@ -10,7 +10,7 @@ use Rattle.grid.specs.LoopLaws.{upto-both}
 use Rattle.grid.specs.Real.{Vec}
 use Rattle.grid.specs.Cell.{at2, put2, entry}
 use Rattle.grid.specs.CellLaws.{put-here, put-elsewhere}
-use Rattle.eigen.specs.Eigen.{mirrorStep, mirrorRow, rows}
+use Rattle.layout.specs.Layout.{mirrorStep, mirrorRow, rows}
 use Rattle.exact.specs.Copies.{Past, above, beside}
 
 module _ (n : ℕ) (v : Vec) where

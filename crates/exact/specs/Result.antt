@@ -24,7 +24,7 @@ use Rattle.answers.specs.EditionLaws.{Checked12, edition-checked, fitting-editi
 use Rattle.answers.specs.OutcomeLaws.{limit-right, none-seven}
 use Rattle.answers.specs.IndexLaws.{refusal7-index, refusal7-most}
 use Rattle.answers.specs.declared.Answer.{Answer}
-use Rattle.ql.specs.Ql.{sorted}
+use Rattle.sort.specs.Sort.{sorted}
 use Rattle.told.specs.Document.{Carried, begun}
 use Rattle.told.specs.Long.{ran-long}
 use Rattle.told.specs.Told.{list1, list2, Ran, Whole, Told, well, at-mark2, at-mark1, at-limit}

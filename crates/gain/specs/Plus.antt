@@ -12,9 +12,9 @@ use lib.Ieee.Exact.{HasValue, units-val}
 use lib.Ieee.Order.{drop, kept}
 use lib.Ieee.Scale.{finite}
 use Rattle.grid.specs.Real.{zero64, _⊕_, _⊗_}
-use Rattle.leaves.specs.Root as Root
-use Rattle.leaves.specs.Root.{root, rootOf, whole}
-use Rattle.leaves.specs.Nearest.{counted}
+use Rattle.root.specs.Root as Root
+use Rattle.root.specs.Root.{root, rootOf, whole}
+use Rattle.root.specs.Nearest.{counted}
 use Rattle.gain.specs.Scale.{isZero, fine}
 use Rattle.gain.specs.Round.{fine-finite, units-under}
 use Rattle.gain.specs.Ops.{exact, fits-low, units-of, left-units, right-units}

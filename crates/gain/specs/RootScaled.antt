@@ -15,8 +15,8 @@ use lib.Ieee.Fits.{round-is, up-pos, down-pos, and-r}
 use lib.Ieee.Nearest.{closest, closest-same, div-same}
 use lib.Ieee.Order.{drop, kept}
 use lib.Ieee.Scale.{finite, normal-of-rounded}
-use Rattle.leaves.specs.Root.{next, whole, units, rootOf, root}
-use Rattle.leaves.proofs.Rounds.{middle}
+use Rattle.root.specs.Root.{next, whole, units, rootOf, root}
+use Rattle.root.proofs.Rounds.{middle}
 use Rattle.gain.specs.Scale.{scale, isZero, fine, Scaled}
 use Rattle.gain.specs.ScaleLaws.{moved-val}
 use Rattle.gain.specs.Round.{size-gt, join, pred-lt, more, fine-finite, units-shift, units-normal, round-some}

@@ -12,7 +12,7 @@ use lib.Ieee.Exact.{HasValue, round-exact}
 use lib.Ieee.Fits.{down-pos, and-l, and-r, round-fits}
 use lib.Ieee.Scale.{round-same}
 use Rattle.grid.specs.Real.{_⊗_}
-use Rattle.leaves.proofs.Worked.{units-are, units-inj}
+use Rattle.root.proofs.Worked.{units-are, units-inj}
 use Rattle.gain.specs.Scale.{scale}
 use Rattle.gain.specs.ScaleLaws.{shift}
 use Rattle.gain.specs.Ops.{lower, fits-low}

@@ -8,7 +8,7 @@ use lib.Ieee.{Float, binary64, ofBits, neg, add, sub, mul, div, lt, le, eq}
 use Rattle.grid.specs.Loop.{seek, first, times, upto, rounds}
 use Rattle.grid.specs.Real.{Vec, zeros, zero64, one64, two64}
 use Rattle.grid.specs.Table.{table}
-use Rattle.leaves.specs.Root.{whole, rootOf, root}
+use Rattle.root.specs.Root.{whole, rootOf, root}
 use Rattle.leaves.specs.Leaf.{magnitude, isFinite}
 use Rattle.leaves.specs.Scan.{classOf, scan, placeOf, byRows}
 use Rattle.answers.specs.Answers.{limitGood, lengths, least, present, decompositionLength}

@@ -7,7 +7,7 @@ use Rattle.grid.specs.Loop.{upto}
 use Rattle.grid.specs.Real.{Vec, zero64, at, _⊕_, _⊖_, _⊗_}
 use Rattle.grid.specs.Cell.{entry}
 use Rattle.grid.specs.Table.{table}
-use Rattle.leaves.specs.Root.{root}
+use Rattle.root.specs.Root.{root}
 
 -- column j of q
 abbrev pub columnOf : ℕ → ℕ → Vec → ℕ → Vec

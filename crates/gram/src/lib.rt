@@ -6,7 +6,7 @@ ghost use Rattle.gram.specs.Gram.{columnOf, dot, lessened, pass, passes,
 use grid::at1;
 use grid::entry;
 use grid::put1;
-use leaves::root;
+use root::root;
 
 // Column j of q.
 pub fn column_of(m: usize, k: usize, q: &[f64], j: usize, c: &mut [f64])

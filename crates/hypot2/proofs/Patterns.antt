@@ -9,11 +9,11 @@ use lib.Ieee.{Float, nan, inf, fin, binary64, up, down, eq, ne, isNan, size, toB
 use lib.Ieee.Bits.{ofBits-toBits}
 use lib.Ieee.Compare.{differs-from-itself}
 use lib.Ieee.Digits.{size-le}
-use Rattle.leaves.specs.Root.{units}
+use Rattle.root.specs.Root.{units}
 use Rattle.leaves.specs.Leaf.{magnitude}
-use Rattle.leaves.proofs.Fields as fields
-use Rattle.leaves.proofs.Worked.{pattern, from-units}
-use Rattle.leaves.proofs.Neighbours.{pattern-units}
+use Rattle.root.proofs.Fields as fields
+use Rattle.root.proofs.Worked.{pattern, from-units}
+use Rattle.root.proofs.Neighbours.{pattern-units}
 use Rattle.hypot2.specs.Hypot2.{rootOf, hypot2}
 use Rattle.hypot2.specs.Parts.{low, high, val}
 use Rattle.hypot2.proofs.Rounds.{val-is}

@@ -9,9 +9,9 @@ use lib.Pow.{pow-pos}
 use lib.Ieee.{Float, nan, inf, fin, binary64, fits, ofBits, toBits}
 use lib.Ieee.Bits.{ofBits-toBits}
 use Rattle.grid.specs.Real.{zero64}
-use Rattle.leaves.specs.Root.{units}
+use Rattle.root.specs.Root.{units}
 use Rattle.leaves.specs.Leaf.{magnitude, hypot}
-use Rattle.leaves.proofs.Whole.{sq-even}
+use Rattle.root.proofs.Whole.{sq-even}
 use Rattle.hypot2.specs.Hypot2.{rootOf, hypot2}
 use Rattle.hypot2.specs.Edition.{pythag}
 use Rattle.hypot2.specs.Parts.{low, val}

@@ -10,10 +10,10 @@ use borrow.Author.Tests.{lt-ltb}
 use lib.Dec.{T, ltb, eqb, ltb→lt}
 use lib.Pow.{pow-add, pow-pos, pow-mono, pow-lt}
 use lib.Ieee.{binary64, ofBits}
-use Rattle.leaves.specs.School.{digits}
-use Rattle.leaves.specs.declared.Found.{Found}
-use Rattle.leaves.proofs.Whole.{sq-lt-back}
-use Rattle.leaves.proofs.School.{stands}
+use Rattle.root.specs.School.{digits}
+use Rattle.root.specs.declared.Found.{Found}
+use Rattle.root.proofs.Whole.{sq-lt-back}
+use Rattle.root.proofs.School.{stands}
 use Rattle.hypot2.specs.Hypot2.{rootOf}
 use Rattle.hypot2.specs.Parts.{low, val, bits, packed, rounded}
 use Rattle.hypot2.proofs.Stretch.{Stretch, made, far, reached}

@@ -10,11 +10,11 @@ ghost use Rattle.hypot2.specs.Hypot2.{rootOf, hypot2};
 ghost use Rattle.hypot2.specs.Edition.{pythag};
 ghost use Rattle.hypot2.specs.Parts.{low, val, digit, packed, rounded};
 ghost use Rattle.hypot2.specs.NearestEven.{NearestEven};
-use leaves::Found;
-use leaves::digits;
 use leaves::hypot;
 use leaves::magnitude;
-use leaves::not_a_number;
+use root::Found;
+use root::digits;
+use root::not_a_number;
 
 // hi * 2^56 + lo
 struct Wide {

@@ -9,7 +9,7 @@ use Rattle.grid.specs.Loop.{upto}
 use Rattle.grid.specs.Real.{Vec, one64, epsilon, at, _⊘_}
 use Rattle.grid.specs.Table.{table}
 use Rattle.leaves.specs.Leaf.{isFinite}
-use Rattle.leaves.specs.Root.{root}
+use Rattle.root.specs.Root.{root}
 use Rattle.leaves.specs.Scan.{classOf}
 use Rattle.answers.specs.Answers.{answered, done}
 use Rattle.answers.specs.declared.Answer.{Answer}

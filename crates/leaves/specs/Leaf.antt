@@ -2,7 +2,7 @@
 use mathlib.Core.Bool.{Bool, true, false, cond}
 use lib.Ieee.{Float, nan, inf, fin, lt, eq}
 use Rattle.grid.specs.Real.{zero64, one64, _⊕_, _⊗_, _⊘_}
-use Rattle.leaves.specs.Root.{root}
+use Rattle.root.specs.Root.{root}
 
 -- the absolute value: the sign bit is cleared
 unfoldable pub magnitude : Float → Float

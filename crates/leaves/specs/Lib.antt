@@ -1,8 +1,4 @@
--- The leaves: the square root, and what the routines share below the loops.
-pub mod Root
-pub mod Parts
-pub mod School
-pub mod Nearest
+-- The leaves: what the routines share below the loops.
 pub mod Leaf
 pub mod Scan
 pub mod Finite

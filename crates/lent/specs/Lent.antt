@@ -10,8 +10,10 @@ use Rattle.leaves.specs.declared.Bad.{Bad}
 use Rattle.answers.specs.declared.Answer.{Answer}
 use Rattle.tred.specs.Tred.{tred2}
 use Rattle.pass.specs.declared.Run.{Run}
-use Rattle.ql.specs.Ql.{State, movedUp, finished}
-use Rattle.eigen.specs.Eigen.{columns, mark0, given}
+use Rattle.turns.specs.Turns.{State}
+use Rattle.ql.specs.Ql.{movedUp, finished}
+use Rattle.layout.specs.Layout.{columns}
+use Rattle.eigen.specs.Eigen.{mark0, given}
 
 -- ---- where it begins
 

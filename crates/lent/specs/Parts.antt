@@ -13,7 +13,7 @@ use Rattle.leaves.specs.Scan.{isBad}
 use Rattle.leaves.specs.declared.Bad.{Bad}
 use Rattle.answers.specs.declared.Answer.{Answer}
 use Rattle.pass.specs.declared.Run.{Run}
-use Rattle.ql.specs.Ql.{State}
+use Rattle.turns.specs.Turns.{State}
 use Rattle.ql.specs.Ql as Ql
 use Rattle.eigen.specs.Lent.{outward, laid, behind, behind-put, put-together, zeros-drop}
 use Rattle.machine.specs.Machine.{step}

@@ -5,7 +5,7 @@ use Prim.Native.Nat.{ℕ, zero, suc, _+_, _-_}
 use lib.Dec.{ltb, eqb}
 use Rattle.pass.specs.Pass.{going, pass}
 use Rattle.pass.specs.declared.Run.{Run}
-use Rattle.ql.specs.Ql.{State, opened, ended, closed}
+use Rattle.turns.specs.Turns.{State, opened, ended, closed}
 
 -- to the next l
 abbrev pub nextL : Run → Run

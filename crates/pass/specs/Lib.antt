@@ -1,2 +1,2 @@
--- Pass: the definition of one QL pass of tql2. Both: what is found in two lists, one behind the other.
+-- Pass: the definition of one QL pass of tql2.
 pub mod Pass

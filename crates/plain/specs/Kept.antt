@@ -6,7 +6,7 @@ use lib.Ieee.{Float, lt}
 use lib.ListN.{length, set, length-set}
 use Rattle.grid.specs.Loop.{rounds}
 use Rattle.grid.specs.Real.{Vec, zero64}
-use Rattle.leaves.specs.Root.{root}
+use Rattle.root.specs.Root.{root}
 use Rattle.answers.specs.declared.Answer.{Answer}
 use Rattle.sweep.specs.Sweep.{uAt, valueAt}
 use Rattle.sweep.specs.Kept.{keeps, sweep-length}

@@ -1,3 +1,2 @@
--- Ql: the definition of tql2, the run over l with its marks and its limit, and the sort. Bounds: laws.
+-- Ql: the definition of tql2, with its marks and its limit.
 pub mod Ql
-pub mod Bounds

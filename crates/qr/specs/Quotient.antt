@@ -13,7 +13,7 @@ use lib.Ieee.Fits.{up-pos, down-pos, round-is}
 use lib.Ieee.Order.{round-mono}
 use Rattle.grid.specs.Real.{epsilon, _⊕_, _⊗_, _⊘_}
 use Rattle.leaves.specs.Leaf.{isFinite}
-use Rattle.leaves.specs.Root.{root}
+use Rattle.root.specs.Root.{root}
 
 -- ---- what an operation gave is finite, so what it was given is
 

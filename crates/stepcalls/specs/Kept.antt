@@ -24,15 +24,17 @@ use Rattle.leaves.specs.FiniteLaws.{finite-both}
 use Rattle.leaves.specs.declared.Bad.{Bad}
 use Rattle.leaves.specs.declared.Bad.the-variants.{At, Nowhere}
 use Rattle.answers.specs.Answers.{limitGood, editionGood}
-use Rattle.pass.specs.Pass.{transformed, tiny, mark1, settled, judged, verdict, pass}
+use Rattle.transform.specs.Transform.{transformed}
+use Rattle.pass.specs.Pass.{tiny, mark1, settled, judged, verdict, pass}
 use Rattle.pass.specs.declared.Run.{Run}
-use Rattle.ql.specs.Ql.{State, opened, stopping, released, closed}
+use Rattle.turns.specs.Turns.{State, opened, stopping, released, closed}
 use Rattle.told.specs.Document.{Carried}
 use Rattle.told.specs.Last.{plus, nought, nought-zero, plus-larger, plus-le, nought-eq, transformed-ended}
 use Rattle.told.specs.Long.{body-long}
 use Rattle.machine.specs.Machine.{goneOn, come, found, undecided, decided, step}
-use Rattle.machine.specs.Checks.{inRange, sound}
-use Rattle.machine.specs.Walk.{Open, left, left-open, Found, found-found, closed-settled, onward-going, onward-ended}
+use Rattle.runchecks.specs.Checks.{inRange, sound}
+use Rattle.runchecks.specs.CheckLaws.{Open}
+use Rattle.machine.specs.Walk.{left, left-open, Found, found-found, closed-settled, onward-going, onward-ended}
 
 -- ---- what is kept
 

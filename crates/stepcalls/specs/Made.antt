@@ -28,15 +28,19 @@ use Rattle.answers.specs.OutcomeLaws.{limit-right}
 use Rattle.answers.specs.declared.Answer.{Answer}
 use Rattle.tred.specs.Tred.{tred2}
 use Rattle.tred.specs.Sizes.{tred2-square, tred2-diagonal, tred2-beside}
-use Rattle.ql.specs.Ql.{State, fresh, upStep, movedUp, run, tql2}
+use Rattle.turns.specs.Turns.{State, fresh, run}
+use Rattle.ql.specs.Ql.{upStep, movedUp, tql2}
+use Rattle.turns.specs.Turns as Turns
 use Rattle.ql.specs.Ql as Ql
 use Rattle.told.specs.Last.{plus-zero, moved-last}
-use Rattle.eigen.specs.Eigen.{columns, mark0, afterTred, decomposed, cleared, given, eigen}
+use Rattle.layout.specs.Layout.{columns}
+use Rattle.eigen.specs.Eigen.{mark0, afterTred, decomposed, cleared, given, eigen}
+use Rattle.layout.specs.Layout as Layout
 use Rattle.eigen.specs.Eigen as Eigen
 use Rattle.exact.specs.Copies.{columns-long}
 use Rattle.machine.specs.Machine.{step}
-use Rattle.machine.specs.Checks.{checked}
-use Rattle.machine.specs.Walk.{Open}
+use Rattle.runchecks.specs.Checks.{checked}
+use Rattle.runchecks.specs.CheckLaws.{Open}
 use Rattle.lent.specs.Lent.{readied, setting, stateOf, closedUp}
 use Rattle.steps.specs.Steps.{Outcome, running, recorded, answering, endsAs, newRun, endsWith, begun, entered, started, moved, stepped, finished}
 use Rattle.stepcalls.specs.Runs.{walked, arrived, reply, Reached}
@@ -104,14 +108,14 @@ module _ (n limit edition : ℕ) (x : State) (f : Fit n limit edition) (o : Open
       ∙ ap (λ (s : State). brought n limit edition (step n limit edition s)) same
 
   finish-to : n ≤ x .0 .l
-      → finished (recorded n limit edition (x .0) (done (x .0 .count))) (x .3) (x .2 ++ x .1) ≡ endsAs n limit edition (Ql.stopping (x .0) 1) (closedUp n (x .0) (x .3) (x .2 ++ x .1))
+      → finished (recorded n limit edition (x .0) (done (x .0 .count))) (x .3) (x .2 ++ x .1) ≡ endsAs n limit edition (Turns.stopping (x .0) 1) (closedUp n (x .0) (x .3) (x .2 ++ x .1))
   unfolding finished
   finish-to h =
       let q = recorded n limit edition (x .0) (done (x .0 .count)) in
       let r = x .2 ++ x .1 in
       λ i. cond (is-going i)
       (cond (passed (passes-checks i))
-      (cond (le-ltb (x .0 .l) n h i) (answering q (refused 13 0), x .3, r) (endsAs n limit edition (Ql.stopping (x .0) 1) (closedUp n (x .0) (x .3) r)))
+      (cond (le-ltb (x .0 .l) n h i) (answering q (refused 13 0), x .3, r) (endsAs n limit edition (Turns.stopping (x .0) 1) (closedUp n (x .0) (x .3) r)))
       (answering q (passes-checks i), x .3, r))
       (q, x .3, r)
 
@@ -127,7 +131,7 @@ module _ (n limit edition : ℕ) (x : State) (f : Fit n limit edition) (o : Open
       let r = x .2 ++ x .1 in
       λ i. cond (is-going i)
       (cond (passed (passes-checks i))
-      (cond (lt-ltb (x .0 .l) n h i) (answering q (refused 13 0), x .3, r) (endsAs n limit edition (Ql.stopping (x .0) 1) (closedUp n (x .0) (x .3) r)))
+      (cond (lt-ltb (x .0 .l) n h i) (answering q (refused 13 0), x .3, r) (endsAs n limit edition (Turns.stopping (x .0) 1) (closedUp n (x .0) (x .3) r)))
       (answering q (passes-checks i), x .3, r))
       (q, x .3, r)
 
@@ -158,7 +162,7 @@ finish-over t g =
     let x = checked (q .n) (q .limit) (q .edition) (q .run) (t .1) (t .2) in
     λ i. cond (g i)
     (cond (passed x)
-    (cond (ltb (q .run .l) (q .n)) (answering q (refused 13 0), t .1, t .2) (endsAs (q .n) (q .limit) (q .edition) (Ql.stopping (q .run) 1) (closedUp (q .n) (q .run) (t .1) (t .2))))
+    (cond (ltb (q .run .l) (q .n)) (answering q (refused 13 0), t .1, t .2) (endsAs (q .n) (q .limit) (q .edition) (Turns.stopping (q .run) 1) (closedUp (q .n) (q .run) (t .1) (t .2))))
     (answering q x, t .1, t .2)) t
 
 abbrev stepT : Outcome → Outcome
@@ -374,7 +378,7 @@ module _ (n limit edition : ℕ) (a : Vec) (f : Fit n limit edition) where
 
       -- a class is not 0
       refuses : (k c : ℕ) → eqb c 0 ≡ false → cleared n (answered c 0 k 0) ≡ given n (answered c 0 k 0, x .0, x .1, x .2)
-      refuses k c z = unfold given in sym (λ i. cond (z i) (answered c 0 k 0, zeros n, x .1 ++ Eigen.rows n (x .0)) (cleared n (answered c 0 k 0)))
+      refuses k c z = unfold given in sym (λ i. cond (z i) (answered c 0 k 0, zeros n, x .1 ++ Layout.rows n (x .0)) (cleared n (answered c 0 k 0)))
 
       go : (m : Bad) → mark0 n (x .0) (x .1) (x .2) ≡ m
           → Made n limit edition (given n (cond (isBad m) (marked 0 0 m, x .0, x .1, x .2) (tql2 n limit edition x))) (then (cond {A = Bad × Vec × Vec × Vec} (isBad m) (m, x .0, x .1, x .2) (m, x .0, x .1, movedUp n (x .2))))

@@ -15,7 +15,9 @@ use Rattle.answers.specs.Answers.{answered, done, marked}
 use Rattle.answers.specs.declared.Answer.{Answer}
 use Rattle.pass.specs.Pass.{pass}
 use Rattle.pass.specs.declared.Run.{Run}
-use Rattle.ql.specs.Ql.{State, opened, ended, iterated, released, closed, stage, turn, mark2, sorted, finished}
+use Rattle.turns.specs.Turns.{State, opened, ended, iterated, released, closed, stage, turn}
+use Rattle.ql.specs.Ql.{mark2, finished}
+use Rattle.sort.specs.Sort.{sorted}
 use Rattle.machine.specs.Machine.{nextL, goneOn, come, skipped, found, undecided, decided, step}
 use Rattle.machine.specs.Walk.{going-on, onward-ended, onward-going, closed-settled, closed-l, passedOver, Coming, settles, stays, coming}
 

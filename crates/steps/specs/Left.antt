@@ -13,8 +13,8 @@ use Rattle.answers.specs.declared.Answer.{Answer}
 use Rattle.pass.specs.declared.Run.{Run}
 use Rattle.eigen.specs.Eigen.{cleared}
 use Rattle.machine.specs.Machine.{step}
-use Rattle.machine.specs.Checks.{inRange, sound, checked}
-use Rattle.machine.specs.Walk.{Past, range-past}
+use Rattle.runchecks.specs.Checks.{inRange, sound, checked}
+use Rattle.runchecks.specs.CheckLaws.{Past, range-past}
 use Rattle.lent.specs.Lent.{stateOf, laidOut, closedUp}
 use Rattle.steps.specs.Steps.{Outcome, recorded, endsAs, newRun, endsWith, moved}
 use Rattle.steps.specs.declared.EigenRun.{EigenRun}

@@ -9,11 +9,11 @@ use Rattle.answers.specs.Answers.{done, refused, passed, limitGood, fittingEdit
 use Rattle.answers.specs.declared.Answer.{Answer}
 use Rattle.pass.specs.Pass.{going, converged}
 use Rattle.pass.specs.declared.Run.{Run}
-use Rattle.ql.specs.Ql.{fresh, stopping}
+use Rattle.turns.specs.Turns.{fresh, stopping}
 use Rattle.eigen.specs.Eigen.{cleared}
 use Rattle.lent.specs.Lent.{setting, stateOf, laidOut, closedUp}
 use Rattle.machine.specs.Machine.{step}
-use Rattle.machine.specs.Checks.{checked}
+use Rattle.runchecks.specs.Checks.{checked}
 use Rattle.steps.specs.declared.EigenRun.{EigenRun}
 
 abbrev pub Outcome : Type 0

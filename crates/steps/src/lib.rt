@@ -4,7 +4,7 @@ ghost use mathlib.Core.Path.{_≡_};
 ghost use Prim.Native.Nat.{_+_, _*_, _<_, _≤_};
 ghost use lib.ListN.{length};
 ghost use Rattle.grid.specs.Real.{zeros};
-ghost use Rattle.machine.specs.Walk.{Open};
+ghost use Rattle.runchecks.specs.CheckLaws.{Open};
 ghost use Rattle.steps.specs.Steps.{newRun, begun, entered, started, moved, stepped, finished};
 use answers::Answer;
 use answers::done;
@@ -20,9 +20,9 @@ use leaves::is_bad;
 use lent::begin_run;
 use lent::close_up;
 use lent::move_on;
-use machine::checked;
 use pass::Run;
-use ql::stopping;
+use runchecks::checked;
+use turns::stopping;
 
 // A run of `symmetric_eigen`. It goes on while run.stop is 0 and has ended otherwise; answer is what the last call gave. Between
 // steps run.l is the l that is worked on, n where the last is done, and run.passes is 0 where the search for m is still to come.

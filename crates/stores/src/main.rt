@@ -49,12 +49,12 @@ fn main() {
     let mut tiles = [0u16; 64];
     let mut bytes = [b'.'; 10];
     let mut out = [b'-'; 2];
-    show(owners::set_up(6, 5, &mut list, &tiles, &bytes));
-    show(owners::set_up(6, 4, &mut list, &tiles, &bytes));
+    show(quotas::set_up(6, 5, &mut list, &tiles, &bytes));
+    show(quotas::set_up(6, 4, &mut list, &tiles, &bytes));
     fill(&mut list, &mut tiles, &mut bytes);
     look(&list, &tiles, &bytes);
     turn(&mut list, &mut tiles, &mut bytes);
     fetch(&list, &tiles, &bytes, &mut out);
-    show(owners::reset(&mut list, &tiles, &bytes));
+    show(quotas::reset(&mut list, &tiles, &bytes));
     look(&list, &tiles, &bytes);
 }

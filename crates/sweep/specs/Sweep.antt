@@ -7,7 +7,7 @@ use lib.Ieee.{Float, neg, le, eq}
 use lib.ListN.{set}
 use Rattle.grid.specs.Loop.{upto}
 use Rattle.grid.specs.Real.{Vec, at, zero64, one64, two64, epsilon, _⊕_, _⊖_, _⊗_, _⊘_}
-use Rattle.leaves.specs.Root.{root}
+use Rattle.root.specs.Root.{root}
 use Rattle.leaves.specs.Leaf.{magnitude}
 use Rattle.sweep.specs.declared.Sums.{Sums}
 use Rattle.sweep.specs.declared.Rotation.{Rotation}

@@ -10,7 +10,7 @@ use grid::EPSILON;
 use grid::at1;
 use grid::put1;
 use leaves::magnitude;
-use leaves::root;
+use root::root;
 
 // The sub-Gram of a pair of columns: alpha and beta are their squared norms, gamma their product.
 pub struct Sums {

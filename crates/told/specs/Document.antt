@@ -9,8 +9,10 @@ use lib.ListN.{set}
 use Rattle.grid.specs.Loop.{first}
 use Rattle.grid.specs.Real.{Vec, zero64, at, _⊕_}
 use Rattle.leaves.specs.Leaf.{magnitude, larger}
-use Rattle.pass.specs.Pass.{transformed, tiny}
-use Rattle.ql.specs.Ql.{movedUp, sorted}
+use Rattle.transform.specs.Transform.{transformed}
+use Rattle.pass.specs.Pass.{tiny}
+use Rattle.ql.specs.Ql.{movedUp}
+use Rattle.sort.specs.Sort.{sorted}
 
 -- what its loops carry
 pub record Carried : Type 0 where

@@ -3,7 +3,7 @@ use mathlib.Core.Path.{_≡_, refl, sym, ap, _∙_, subst}
 use mathlib.Core.Bool.{true≢false}
 use Prim.Native.Nat.{ℕ, zero, suc}
 use Rattle.grid.specs.Real.{Vec}
-use Rattle.ql.specs.Ql.{sorted}
+use Rattle.sort.specs.Sort.{sorted}
 use Rattle.told.specs.Document.{Carried, begun, grown, body, valued, Looped, once, again, Turned, at-once, by-passes, Ran, none, more, Tql2}
 
 -- ---- one result at most

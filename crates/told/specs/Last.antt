@@ -20,9 +20,11 @@ use Rattle.grid.specs.LoopLaws.{upto-keeps}
 use Rattle.grid.specs.Real.{Vec, zero64, epsilon, at, _⊗_}
 use Rattle.leaves.specs.Leaf.{magnitude, larger, isFinite}
 use Rattle.hypot2.specs.Edition.{pythag}
-use Rattle.pass.specs.Pass.{spin, spins, still, landed, transformed, tiny}
-use Rattle.pass.specs.declared.Spin.{Spin}
-use Rattle.ql.specs.Ql.{upStep, movedUp, split}
+use Rattle.transform.specs.Transform.{spin, spins, still, landed, transformed}
+use Rattle.pass.specs.Pass.{tiny}
+use Rattle.transform.specs.declared.Spin.{Spin}
+use Rattle.ql.specs.Ql.{upStep, movedUp}
+use Rattle.turns.specs.Turns.{split}
 
 -- ---- f64: a number with no minus sign, which nan is not; a zero of either sign
 

@@ -8,9 +8,9 @@ use lib.ListN.{length, length-set}
 use Rattle.grid.specs.Loop.{drops, fall}
 use Rattle.grid.specs.Real.{Vec}
 use Rattle.grid.specs.CellLaws.{upto-long}
-use Rattle.pass.specs.Pass.{shift, lessStep, lessened, rotStep, rotated, spin, spins, landed, transformed}
-use Rattle.pass.specs.declared.Spin.{Spin}
-use Rattle.ql.specs.Ql.{leastFrom, swapStep, swapped, sortStep, sorted}
+use Rattle.transform.specs.Transform.{shift, lessStep, lessened, rotStep, rotated, spin, spins, landed, transformed}
+use Rattle.transform.specs.declared.Spin.{Spin}
+use Rattle.sort.specs.Sort.{leastFrom, swapStep, swapped, sortStep, sorted}
 use Rattle.told.specs.Document.{Carried, body, Looped, once, again, Turned, at-once, by-passes, Ran, none, more, Tql2}
 
 rotated-long : (n i : ℕ) (c s : Float) (v : Vec) → length (rotated n i c s v) ≡ length v

@@ -15,8 +15,8 @@ use Rattle.grid.specs.Cell.{at2, put2}
 use Rattle.grid.specs.CellLaws.{put-here, put-elsewhere}
 use Rattle.leaves.specs.Leaf.{isFinite}
 use Rattle.leaves.specs.Compare.{lt-self, lt-chain, lt-turn}
-use Rattle.ql.specs.Ql.{better, leastFrom, swapStep, swapped, sortStep, sorted}
-use Rattle.ql.specs.declared.Best.{Best}
+use Rattle.sort.specs.Sort.{better, leastFrom, swapStep, swapped, sortStep, sorted}
+use Rattle.sort.specs.declared.Best.{Best}
 use Rattle.told.specs.Arranged.{Permutation, Arranged}
 
 -- ---- two indices change places

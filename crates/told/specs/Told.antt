@@ -11,7 +11,7 @@ use Rattle.leaves.specs.Scan.{byRows}
 use Rattle.leaves.specs.Finite.{Finite, First}
 use Rattle.answers.specs.Answers.{answered, done}
 use Rattle.answers.specs.declared.Answer.{Answer}
-use Rattle.ql.specs.Ql.{sorted}
+use Rattle.sort.specs.Sort.{sorted}
 use Rattle.told.specs.Document.{Carried, begun, grown, searched, body, settled, valued}
 
 -- d and e are finite: what mark 1 looks at

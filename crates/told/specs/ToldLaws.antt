@@ -17,7 +17,7 @@ use Rattle.leaves.specs.declared.Bad.{Bad}
 use Rattle.leaves.specs.declared.Bad.the-variants.{At, Nowhere}
 use Rattle.answers.specs.Answers.{answered, done}
 use Rattle.answers.specs.declared.Answer.{Answer}
-use Rattle.ql.specs.Ql.{sorted}
+use Rattle.sort.specs.Sort.{sorted}
 use Rattle.told.specs.Document as Doc
 use Rattle.told.specs.Document.{Carried, begun, valued}
 use Rattle.told.specs.Told.{Sound, FirstIn, list1, list2, End, here, bad, used, Looped, no-more, stop, once, again, Turned, at-once, by-passes, by-mark, by-limit, Ran, none, more, Whole, Told, well, at-mark2, at-mark1, at-limit}

@@ -13,7 +13,7 @@ use Rattle.grid.specs.LoopLaws.{upto-both, upto-keeps, upto-same, down-both}
 use Rattle.grid.specs.Real.{Vec, zero64, one64, at, _⊕_, _⊖_, _⊗_, _⊘_}
 use Rattle.grid.specs.Cell.{at2, put2}
 use Rattle.grid.specs.CellLaws.{Sized}
-use Rattle.leaves.specs.Root.{root}
+use Rattle.root.specs.Root.{root}
 use Rattle.tred.specs.Tred.{scaleOf, skipStep, skipRow, overScale, clearStep, clear, against, generate, similarStep, similarColumn, similarityStep, similarity, overH, lessen, updateStep, updateColumn, updatesStep, updates, reflect, skip, reduce, householder, reduction, accumulation, copyStep, copyLast, moveLast, tred2}
 use Rattle.tred.specs.Agree.{Agree, stored, kept, fewer, whole, of-equal, beyond-end}
 

@@ -9,7 +9,7 @@ use lib.ListN.{set}
 use Rattle.grid.specs.Loop.{upto, down}
 use Rattle.grid.specs.Real.{Vec, zero64, one64, at, _⊕_, _⊖_, _⊗_, _⊘_}
 use Rattle.grid.specs.Cell.{at2, put2}
-use Rattle.leaves.specs.Root.{root}
+use Rattle.root.specs.Root.{root}
 use Rattle.leaves.specs.Leaf.{magnitude}
 
 -- ---- the reduction, at one i

@@ -6,7 +6,7 @@ ghost use Rattle.tred.specs.Tred.{scaleOf, overScale, clear, against, ge
 use grid::at1;
 use grid::put1;
 use leaves::magnitude;
-use leaves::root;
+use root::root;
 
 pub fn scale_of(i: usize, d: &[f64]) -> f64
     requires { ⌜ i ≤ length (now d) ⌝ }

@@ -21,7 +21,8 @@ use Rattle.answers.specs.Answers.{passed, editionGood}
 use Rattle.answers.specs.EditionLaws.{edition-right}
 use Rattle.answers.specs.declared.Answer.{Answer}
 use Rattle.tred.specs.Tred.{tred2}
-use Rattle.eigen.specs.Eigen.{columns, rows, afterTred, decomposed, cleared, given, entered, eigen}
+use Rattle.layout.specs.Layout.{columns, rows}
+use Rattle.eigen.specs.Eigen.{afterTred, decomposed, cleared, given, entered, eigen}
 use Rattle.eigen.specs.Lent.{outward}
 use Rattle.exact.specs.Copies.{columns-cell, columns-long}
 use Rattle.exact.specs.ExactLaws.{enters}

@@ -8,9 +8,9 @@ ghost use Rattle.tridiagonal.specs.Tridiagonal.{triStep, tri};
 ghost use Rattle.tridiagonal.specs.Mirror.{innerOf};
 use answers::Answer;
 use eigen::after_tred;
-use eigen::rows;
 use grid::LARGEST;
 use grid::put_entry;
+use layout::rows;
 use tred2::tred2;
 
 // One row.

@@ -6,7 +6,7 @@ use lib.Ieee.{Float, lt}
 use lib.ListN.{take, drop, set}
 use Rattle.grid.specs.Loop.{upto}
 use Rattle.grid.specs.Real.{Vec, at, zero64, _⊕_, _⊗_, _⊘_}
-use Rattle.leaves.specs.Root.{root}
+use Rattle.root.specs.Root.{root}
 use Rattle.leaves.specs.Scan.{firstBad, byRows}
 use Rattle.leaves.specs.declared.Bad.{Bad}
 use Rattle.sweep.specs.Sweep.{uAt, valueAt}

@@ -11,7 +11,7 @@ use leaves::behind;
 use leaves::first_bad;
 use leaves::first_bad_cell;
 use leaves::is_bad;
-use leaves::root;
+use root::root;
 
 // Mark 1: the first number of the factors that is not finite, row by row, u first.
 pub fn factors_bad(rows: usize, cols: usize, w: &[f64]) -> Bad

@@ -26,7 +26,7 @@ fn word(s: &[u8], at: usize) -> u64
 // The number with the bit pattern b. Every pattern of a NaN gives the one NaN.
 fn number(b: u64) -> f64 {
     if b % 0x8000_0000_0000_0000 > 0x7ff0_0000_0000_0000 {
-        return leaves::not_a_number();
+        return root::not_a_number();
     }
     f64::from_bits(b)
 }
@@ -58,7 +58,7 @@ fn line(s: &[u8], at: usize) -> usize
         return s.len();
     }
     if s[at + 16] == b'\n' {
-        show(leaves::root(number(word(s, at))));
+        show(root::root(number(word(s, at))));
         return at + 17;
     }
     if left < 34 {

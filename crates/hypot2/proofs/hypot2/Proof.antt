@@ -7,7 +7,7 @@ use borrow.Author.Needs.{needs}
 use native.Mathlib.Nat.{le-refl, add-comm}
 use lib.Dec.{T}
 use lib.Ieee.{Float, binary64, fits}
-use Rattle.leaves.proofs.Patterns.{no-nan}
+use Rattle.root.proofs.Patterns.{no-nan}
 use Rattle.hypot2.specs.Hypot2.{rootOf, hypot2}
 use Rattle.hypot2.specs.Parts.{val}
 use Rattle.hypot2.specs.NearestEven.{NearestEven}

@@ -6,7 +6,7 @@ use native.Mathlib.Omega.{arith}
 use borrow.Author.Needs.{needs}
 use Prim.Native.Nat.{suc}
 use native.Mathlib.Nat.{mul-le-mul, mul-le-mul-right, mod-lt, div-add-mod', mul-comm, mul-assoc, mul-right-comm, add-mul, suc-mul, div-lt-iff-lt-mul, div-le-self}
-use Rattle.leaves.proofs.Whole.{sq-even}
+use Rattle.root.proofs.Whole.{sq-even}
 use Rattle.hypot2.proofs.radicand.Statement.{statement}
 use Rattle.hypot2.proofs.radicand.Tie as tie
 

@@ -7,7 +7,7 @@ use borrow.Author.Needs.{needs}
 use lib.ListN.{length}
 use Rattle.krylov.specs.Krylov.{level}
 use Rattle.grid.specs.Real.{one64, _⊘_}
-use Rattle.leaves.specs.Root.{root}
+use Rattle.root.specs.Root.{root}
 use lib.Ieee.{ofInt, binary64}
 use lib.IntN.{pos}
 use Rattle.grid.specs.Table.{table}

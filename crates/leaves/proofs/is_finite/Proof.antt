@@ -1,6 +1,6 @@
 -- Generated from the answers file beside it by tools/prove/prove.py: edit that.
 -- `leaves::is_finite` meets its contract.
-use Rattle.leaves.proofs.Patterns.{self-less}
+use Rattle.leaves.proofs.Less.{self-less}
 use Rattle.leaves.proofs.is_finite.Statement.{statement}
 use Rattle.leaves.proofs.is_finite.Tie as tie
 

@@ -6,7 +6,7 @@ use native.Mathlib.Omega.{arith}
 use lib.ListN.{length}
 use mathlib.Core.List.{[]}
 use Rattle.grid.specs.Real.{Vec}
-use Rattle.ql.specs.Bounds.{opened-l}
+use Rattle.turns.specs.Bounds.{opened-l}
 use Rattle.machine.specs.Machine.{skipped}
 use Rattle.machine.specs.Walk.{closed-at, skip-none, skip-here, skip-l, skip-more}
 use Rattle.machine.proofs.skip.Statement.{statement}

@@ -1,0 +1,3 @@
+-- The laws that the store's loops go by.
+pub mod LoopLaws
+pub mod BitLaws

@@ -1,0 +1,93 @@
+-- Generated from the answers file beside it by tools/prove/prove.py: edit that.
+-- `turns::iterate` meets its contract.
+use mathlib.Core.Path.{_≡_, _∙_, refl, ap}
+use Prim.Native.Nat.{ℕ, _+_, _-_, _<_, _≤_}
+use native.Mathlib.Omega.{arith}
+use Rattle.grid.specs.LoopLaws.{more}
+use borrow.Author.Tests.{eq-eqb, ne-eqb}
+use mathlib.Core.Bool.{not, false}
+use denote.Ref.{now}
+use Rattle.grid.specs.CellLaws.{Sized}
+use Rattle.pass.specs.Pass.{pass}
+use Rattle.turns.specs.Turns.{State, ended, iterated}
+use Rattle.turns.specs.Bounds.{one-pass}
+use Rattle.grid.specs.Loop.{rounds}
+use Rattle.grid.specs.LoopLaws.{rounds-stop, rounds-more, rounds-done}
+use Rattle.turns.proofs.iterate.Statement.{statement}
+use Rattle.turns.proofs.iterate.Tie as tie
+
+-- what is left to do after one pass more
+again : (n limit edition : ℕ) (x y : State) {R : State} → x .0 .passes < limit → y ≡ pass n edition x → ended y ≡ false
+    → rounds (pass n edition) ended (limit - x .0 .passes) x ≡ R → rounds (pass n edition) ended (limit - y .0 .passes) y ≡ R
+again n limit edition x y h e g q =
+    let p = one-pass n edition x y e in
+    let k : limit - y .0 .passes ≡ limit - x .0 .passes - 1 = omega arith in
+    rw k (rounds-more (pass n edition) ended _ (omega arith) e g q)
+
+abbrev Inv-loop : tie.InvT-loop
+Inv-loop n limit edition v₀ d₀ e₀ r₀ v d e r = (r .l ≡ r₀ .l) × (r .m ≡ r₀ .m) × (r .passes ≤ limit) × (r .count ≡ r₀ .count + r .passes) × Sized n v d e × (rounds (pass n edition) ended (limit - r .passes) (r, v, d, e) ≡ rounds (pass n edition) ended limit (r₀, v₀, d₀, e₀))
+
+abbrev μ-loop : tie.MeasureT-loop
+μ-loop n limit edition v₀ d₀ e₀ r₀ v d e r = limit - r .passes
+
+returns : tie.Need-returns Inv-loop μ-loop
+unfolding iterated
+returns c = rw (ne-eqb _ _ (c .if1 .taken))
+
+loop-holds : tie.Need-loop-holds Inv-loop μ-loop
+loop-holds c = (refl, refl, omega arith, omega arith, c .before .before .before .before .before .pre .2, ap (λ (k : ℕ). rounds (pass (c .before .before .before .before .before .args .n) (c .before .before .before .before .before .args .edition)) ended k (c .before .before .before .before .before .args .r0, now (c .before .before .before .before .before .args .v), now (c .before .before .before .before .before .args .d), now (c .before .before .before .before .before .args .e))) (omega arith))
+
+pass-requires : tie.Need-pass-requires Inv-loop μ-loop
+pass-requires c κs = omega (arith, c .before .before .before .before .before .before .before .before .before .before .before .pre .1 .below (c .before .before .before .before .before .before .if1 .left))
+
+same-length : tie.Need-same-length Inv-loop μ-loop
+same-length c = omega (arith, c .before .before .before .before .before .before .before .before .before .before .before .before .before .before .before .before .before .before .before .before .pre .2, c .before .before .before .before .before .before .before .before .before .before .before .before .before .before .loop .inv .4)
+
+same-length-2 : tie.Need-same-length-2 Inv-loop μ-loop
+same-length-2 c = omega (arith, c .before .before .before .before .before .before .before .before .before .before .before .before .before .before .before .before .before .before .before .before .pre .2, c .before .before .before .before .before .before .before .before .before .before .before .before .before .before .loop .inv .4)
+
+same-length-3 : tie.Need-same-length-3 Inv-loop μ-loop
+same-length-3 c = omega (arith, c .before .before .before .before .before .before .before .before .before .before .before .before .before .before .before .before .before .before .before .before .pre .2, c .before .before .before .before .before .before .before .before .before .before .before .before .before .before .loop .inv .4)
+
+returns-2 : tie.Need-returns-2 Inv-loop μ-loop
+unfolding iterated
+returns-2 c = rw (eq-eqb _ _ (c .before .before .before .before .before .before .before .before .before .before .before .before .before .before .before .if1 .left)) (rounds-stop (pass (c .before .before .before .before .before .before .before .before .before .before .before .before .before .before .before .before .before .before .before .before .args .n) (c .before .before .before .before .before .before .before .before .before .before .before .before .before .before .before .before .before .before .before .before .args .edition)) ended _ (omega arith) (c .before .before .before .before .before .before .before .before .pass .ensures) (ap not (ne-eqb _ _ (c .if3 .taken))) (c .before .before .before .before .before .before .before .before .before .before .before .before .before .before .loop .inv .5))
+
+loop-less : tie.Need-loop-less Inv-loop μ-loop
+loop-less c = omega (arith, one-pass _ _ _ _ (c .before .before .before .before .before .before .before .before .pass .ensures) .passes)
+
+loop-again : tie.Need-loop-again Inv-loop μ-loop
+loop-again c = let p = one-pass _ _ _ _ (c .before .before .before .before .before .before .before .before .pass .ensures) in (p .l ∙ c .before .before .before .before .before .before .before .before .before .before .before .before .before .before .loop .inv .0, p .m ∙ c .before .before .before .before .before .before .before .before .before .before .before .before .before .before .loop .inv .1, omega arith, omega arith, omega arith, again _ _ _ _ _ (c .before .before .before .before .before .before .before .before .before .before .before .before .if2 .taken) (c .before .before .before .before .before .before .before .before .pass .ensures) (ap not (eq-eqb _ _ (c .if3 .left))) (c .before .before .before .before .before .before .before .before .before .before .before .before .before .before .loop .inv .5))
+
+same-length-4 : tie.Need-same-length-4 Inv-loop μ-loop
+same-length-4 c = omega (arith, c .before .before .before .before .before .before .before .before .pre .2, c .before .before .loop .inv .4)
+
+same-length-5 : tie.Need-same-length-5 Inv-loop μ-loop
+same-length-5 c = omega (arith, c .before .before .before .before .before .before .before .before .pre .2, c .before .before .loop .inv .4)
+
+same-length-6 : tie.Need-same-length-6 Inv-loop μ-loop
+same-length-6 c = omega (arith, c .before .before .before .before .before .before .before .before .pre .2, c .before .before .loop .inv .4)
+
+returns-3 : tie.Need-returns-3 Inv-loop μ-loop
+unfolding iterated
+returns-3 c = rw (eq-eqb _ _ (c .before .before .before .if1 .left)) (rounds-done (pass (c .before .before .before .before .before .before .before .before .args .n) (c .before .before .before .before .before .before .before .before .args .edition)) ended _ (omega arith) (c .before .before .loop .inv .5))
+
+pub iterate-spec : {M : Type 1} → statement M
+iterate-spec =
+    tie.close
+    (tie.spec
+    Inv-loop
+    μ-loop
+    returns
+    loop-holds
+    pass-requires
+    same-length
+    same-length-2
+    same-length-3
+    returns-2
+    loop-less
+    loop-again
+    same-length-4
+    same-length-5
+    same-length-6
+    returns-3)
