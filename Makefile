@@ -9,7 +9,7 @@
 # make gain         random matrices times powers of two, every operation of document 000's svd watched: SEED=.. CASES=..
 # make compare-covariance
 #                    the covariance through the archive against 128-bit integers: SEED=..
-# make bench         document 000's Rust and the archive in one run
+# make bench         document 000's Rust and the archive in one run; make bench-plot puts it into docs/BENCHMARKS.md, with its picture
 # make bench-root    the square root as it is compiled, beside the processor's and the former one
 .PHONY: all test fmt kit proofs-fresh clean
 
@@ -23,7 +23,7 @@ include tools/pencil.mk
 include oracle/oracle.mk
 
 # What the gate runs before rt ci, since it takes no time, and what behind it.
-QUICK := verbatim rooms-check believe-check pencil-check
+QUICK := verbatim rooms-check believe-check pencil-check plot-check
 GATE := archive boundary example-test
 
 test:

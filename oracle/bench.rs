@@ -1,13 +1,18 @@
-//! Times of document 000's Rust and of the archive's C entries, in one run on the same inputs: a table in Markdown.
-//! LAPACK is measured beside them where the machine has it.
+//! Times of document 000's Rust and of the archive's C entries, in one run on the same inputs: tables in Markdown.
+//! LAPACK is measured beside them where the machine has it. Each time is the least processor time of repeated calls.
 
+#[path = "bench_calls.rs"]
+mod calls;
+#[path = "bench_codec.rs"]
+mod codec;
 #[path = "bench_covariance.rs"]
 mod covariances;
+#[path = "bench_lapack.rs"]
+mod lapack;
 #[path = "bench_store.rs"]
 mod stores;
 
 use oracle::cases::Random;
-use oracle::plain::platform;
 use std::hint::black_box;
 use std::time::Instant;
 
@@ -85,11 +90,6 @@ entries! {
     fn crewelmarsh_store_drop_abi4(owner: usize, list: *mut usize, list_len: usize, tiles: *mut u16, tiles_len: usize, bytes: *mut u8, bytes_len: usize, tile: u16) -> Answer;
 }
 
-unsafe extern "C" {
-    fn dlopen(name: *const u8, flags: i32) -> *mut u8;
-    fn dlsym(library: *mut u8, name: *const u8) -> *mut u8;
-}
-
 fn eigen(n: usize, edition: usize, matrix: &[f64], work: &mut [f64], result: &mut [f64]) -> Answer {
     let (a, w, r) = (matrix.len(), work.len(), result.len());
     unsafe { crewelmarsh_symmetric_eigen_abi4(n, 60, edition, matrix.as_ptr(), a, work.as_mut_ptr(), w, result.as_mut_ptr(), r) }
@@ -131,6 +131,7 @@ fn covariance(n: usize, samples: usize, mut draw: impl FnMut(usize, usize) -> f6
     a
 }
 
+const SIZES: [usize; 7] = [4, 8, 16, 32, 64, 128, 256];
 const KINDS: [&str; 3] = ["independent bands", "smooth spectrum", "few sources and noise"];
 
 fn input(kind: usize, n: usize, rng: &mut Random) -> Vec<f64> {
@@ -155,34 +156,44 @@ fn input(kind: usize, n: usize, rng: &mut Random) -> Vec<f64> {
 
 // ---------------------------------------------------------------- times
 
-/// The median time of one call in microseconds. Calls take turns, so that a slow spell meets all of them.
-fn medians(calls: &mut [&mut dyn FnMut()]) -> Vec<f64> {
-    let mut times = vec![Vec::new(); calls.len()];
-    let start = Instant::now();
-    for call in calls.iter_mut() {
-        call();
-    }
-    let once = start.elapsed().as_secs_f64();
-    let rounds = ((3.0 / once) as usize).clamp(5, 301);
-    // Short calls are timed several at once.
-    let batch = ((2e-4 / once) as usize).clamp(1, 64);
-    for _ in 0..rounds.div_ceil(batch).max(5) {
-        for (call, times) in calls.iter_mut().zip(&mut times) {
-            let start = Instant::now();
-            for _ in 0..batch {
-                call();
-            }
-            times.push(start.elapsed().as_secs_f64() * 1e6 / batch as f64);
-        }
-    }
-    times.iter_mut().for_each(|t| t.sort_by(f64::total_cmp));
-    times.iter().map(|t| t[t.len() / 2]).collect()
+unsafe extern "C" {
+    fn clock_gettime(clock: i32, time: *mut [i64; 2]) -> i32;
 }
 
-fn row(what: &str, kind: &str, n: usize, times: &[f64], lapack: bool) {
-    let beside = |at: usize| if lapack { format!("{:.1}", times[at]) } else { String::new() };
-    let (one, two) = (beside(2), beside(3));
-    println!("| `{what}` | {kind} | {n} | {:.1} | {:.1} | {:.2} | {one} | {two} |", times[0], times[1], times[0] / times[1]);
+/// The thread's processor time in seconds: what else the machine does is not counted.
+fn processor() -> f64 {
+    const THREAD: i32 = 3; // Linux's CLOCK_THREAD_CPUTIME_ID
+    let mut time = [0; 2];
+    assert_eq!(unsafe { clock_gettime(THREAD, &mut time) }, 0);
+    time[0] as f64 + time[1] as f64 * 1e-9
+}
+
+/// The time of so many calls, in seconds.
+fn spent(call: &mut dyn FnMut(), times: usize) -> f64 {
+    let start = processor();
+    (0..times).for_each(|_| call());
+    processor() - start
+}
+
+/// The least time of one call in microseconds. Calls take turns, so that a slow spell meets all of them; short ones are timed several at once.
+fn least(calls: &mut [&mut dyn FnMut()]) -> Vec<f64> {
+    let mut turn = || calls.iter_mut().map(|call| spent(call, 1)).collect::<Vec<f64>>();
+    // The first turn of short calls says little.
+    let once = Some(turn()).filter(|t| t.iter().sum::<f64>() > 0.1).unwrap_or_else(turn);
+    let batches: Vec<usize> = once.iter().map(|t| ((1e-4 / t) as usize).clamp(1, 1000)).collect();
+    let round: f64 = once.iter().zip(&batches).map(|(t, &batch)| t * batch as f64).sum();
+    let mut times = vec![f64::INFINITY; calls.len()];
+    for _ in 0..((0.6 / round) as usize).clamp(5, 3000) {
+        for ((call, time), &batch) in calls.iter_mut().zip(&mut times).zip(&batches) {
+            *time = time.min(spent(call, batch) * 1e6 / batch as f64);
+        }
+    }
+    times
+}
+
+/// Microseconds, with three digits or more from 0.1 on.
+fn micros(time: f64) -> String {
+    if time < 10.0 { format!("{time:.3}") } else { format!("{time:.1}") }
 }
 
 // ---------------------------------------------------------------- blocks
@@ -216,7 +227,7 @@ fn blocks(rng: &mut Random) {
     copy(&block, &mut out);
     assert!(given == out);
     let full = block.clone();
-    let times = medians(&mut [
+    let times = least(&mut [
         &mut || black_box(&mut plain[..]).copy_from_slice(black_box(&full)),
         &mut || drop(black_box(check(black_box(&full)))),
         &mut || copy(black_box(&full), black_box(&mut out)),
@@ -231,187 +242,31 @@ fn blocks(rng: &mut Random) {
     println!("| written from doubles | {:.1} | {:.2} |", times[3], times[0] / times[3]);
 }
 
-// ---------------------------------------------------------------- LAPACK
-
-type Dsyev = unsafe extern "C" fn(
-    *const u8, *const u8, *const i32, *mut f64, *const i32, *mut f64, *mut f64, *const i32, *mut i32, usize, usize,
-);
-type Dgesvd = unsafe extern "C" fn(
-    *const u8, *const u8, *const i32, *const i32, *mut f64, *const i32, *mut f64, *mut f64, *const i32, *mut f64,
-    *const i32, *mut f64, *const i32, *mut i32, usize, usize,
-);
-
-type Dsyevd = unsafe extern "C" fn(
-    *const u8, *const u8, *const i32, *mut f64, *const i32, *mut f64, *mut f64, *const i32, *mut i32, *const i32, *mut i32, usize, usize,
-);
-type Dgesvj = unsafe extern "C" fn(
-    *const u8, *const u8, *const u8, *const i32, *const i32, *mut f64, *const i32, *mut f64, *const i32, *mut f64, *const i32,
-    *mut f64, *const i32, *mut i32, usize, usize, usize,
-);
-
-struct Lapack {
-    dsyev: Dsyev,
-    dsyevd: Dsyevd,
-    dgesvd: Dgesvd,
-    dgesvj: Dgesvj,
-}
-
-fn lapack() -> Option<Lapack> {
-    unsafe {
-        let mut library = dlopen(c"liblapack.so.3".as_ptr().cast(), 2);
-        if library.is_null() {
-            library = dlopen(c"liblapack.so".as_ptr().cast(), 2);
-        }
-        if library.is_null() {
-            return None;
-        }
-        let [a, b, c, d] = [c"dsyev_", c"dsyevd_", c"dgesvd_", c"dgesvj_"].map(|name| dlsym(library, name.as_ptr().cast()));
-        if [a, b, c, d].iter().any(|f| f.is_null()) {
-            return None;
-        }
-        Some(Lapack {
-            dsyev: std::mem::transmute(a),
-            dsyevd: std::mem::transmute(b),
-            dgesvd: std::mem::transmute(c),
-            dgesvj: std::mem::transmute(d),
-        })
-    }
-}
-
-impl Lapack {
-    fn eigen(&self, n: usize, matrix: &[f64], a: &mut [f64], w: &mut [f64], work: &mut [f64]) {
-        a.copy_from_slice(matrix);
-        let (n, lwork, mut info) = (n as i32, work.len() as i32, 0);
-        unsafe {
-            (self.dsyev)(
-                b"V".as_ptr(), b"L".as_ptr(), &n, a.as_mut_ptr(), &n, w.as_mut_ptr(), work.as_mut_ptr(), &lwork, &mut info, 1, 1,
-            )
-        };
-        assert_eq!(info, 0);
-    }
-    fn divide(&self, n: usize, matrix: &[f64], a: &mut [f64], w: &mut [f64], work: &mut [f64], whole: &mut [i32]) {
-        a.copy_from_slice(matrix);
-        let (n, lwork, liwork, mut info) = (n as i32, work.len() as i32, whole.len() as i32, 0);
-        unsafe {
-            (self.dsyevd)(
-                b"V".as_ptr(), b"L".as_ptr(), &n, a.as_mut_ptr(), &n, w.as_mut_ptr(), work.as_mut_ptr(), &lwork, whole.as_mut_ptr(),
-                &liwork, &mut info, 1, 1,
-            )
-        };
-        assert_eq!(info, 0);
-    }
-    fn jacobi(&self, n: usize, matrix: &[f64], a: &mut [f64], s: &mut [f64], v: &mut [f64], work: &mut [f64]) {
-        a.copy_from_slice(matrix);
-        let (n, lwork, mut info) = (n as i32, work.len() as i32, 0);
-        unsafe {
-            (self.dgesvj)(
-                b"G".as_ptr(), b"U".as_ptr(), b"V".as_ptr(), &n, &n, a.as_mut_ptr(), &n, s.as_mut_ptr(), &n, v.as_mut_ptr(), &n,
-                work.as_mut_ptr(), &lwork, &mut info, 1, 1, 1,
-            )
-        };
-        assert_eq!(info, 0);
-    }
-    fn svd(&self, n: usize, matrix: &[f64], a: &mut [f64], s: &mut [f64], u: &mut [f64], vt: &mut [f64], work: &mut [f64]) {
-        a.copy_from_slice(matrix);
-        let (n, lwork, mut info) = (n as i32, work.len() as i32, 0);
-        unsafe {
-            (self.dgesvd)(
-                b"S".as_ptr(), b"S".as_ptr(), &n, &n, a.as_mut_ptr(), &n, s.as_mut_ptr(), u.as_mut_ptr(), &n, vt.as_mut_ptr(), &n,
-                work.as_mut_ptr(), &lwork, &mut info, 1, 1,
-            )
-        };
-        assert_eq!(info, 0);
-    }
+/// What docs/BENCHMARKS.md has between the same two marks, and tools/plot draws.
+fn marked(rng: &mut Random) {
+    println!("<!-- bench: begin -->");
+    calls::table(rng);
+    codec::table(rng);
+    println!("<!-- bench: end -->");
 }
 
 fn main() {
-    let lapack = lapack();
     let mut rng = Random::new(1);
-    if std::env::args().nth(1).as_deref() == Some("blocks") {
-        return blocks(&mut rng);
-    }
-    if std::env::args().nth(1).as_deref() == Some("covariance") {
-        return covariances::table(&mut rng);
-    }
-    if std::env::args().nth(1).as_deref() == Some("store") {
-        return stores::table();
-    }
-    if std::env::args().nth(1).as_deref() == Some("lanczos") {
-        return leading::table(&mut rng);
-    }
-    if std::env::args().nth(1).as_deref() == Some("steps") {
-        return steps::table(&mut rng);
-    }
-    let about = std::fs::read_to_string("/proc/cpuinfo").unwrap_or_default();
-    let model = about.lines().find(|l| l.starts_with("model name")).and_then(|l| l.split(": ").nth(1)).unwrap_or("unknown");
-    println!("Machine: {} ({model}).", std::env::consts::ARCH);
-    println!("Median times of one call in microseconds; the ratio is document 000's time over ours. The last two columns are LAPACK's: dsyev and dsyevd, dgesvd and dgesvj.\n");
-    println!("| routine | input | n | document 000 | ours | ratio | dsyev, dgesvd | dsyevd, dgesvj |");
-    println!("|---|---|---|---|---|---|---|---|");
-    for n in [16, 64, 128, 256] {
-        for kind in 0..3 {
-            let a = input(kind, n, &mut rng);
-            let (mut work, mut result) = (vec![0.0; n], vec![0.0; n + n * n]);
-            let (mut work2, mut result2) = (work.clone(), result.clone());
-            assert_eq!(eigen(n, 1, &a, &mut work, &mut result).answer, 0);
-            assert_eq!(eigen(n, 2, &a, &mut work2, &mut result2).answer, 0);
-            let (mut b, mut w, mut space) = (vec![0.0; n * n], vec![0.0; n], vec![0.0; 64 * n + 64]);
-            let (mut c, mut z, mut room, mut whole) = (vec![0.0; n * n], vec![0.0; n], vec![0.0; 1 + 6 * n + 2 * n * n], vec![0; 3 + 5 * n]);
-            let times = medians(&mut [
-                &mut platform::eigen_call(n, &a),
-                &mut || drop(black_box(eigen(n, 1, &a, &mut work, &mut result))),
-                &mut || lapack.iter().for_each(|l| l.eigen(n, &a, &mut b, &mut w, &mut space)),
-                &mut || lapack.iter().for_each(|l| l.divide(n, &a, &mut c, &mut z, &mut room, &mut whole)),
-                &mut || drop(black_box(eigen(n, 2, &a, &mut work2, &mut result2))),
-            ]);
-            row("symmetric_eigen", KINDS[kind], n, &times, lapack.is_some());
-            row("symmetric_eigen, edition 2", KINDS[kind], n, &[times[0], times[4]], false);
+    match std::env::args().nth(1).as_deref() {
+        Some("blocks") => blocks(&mut rng),
+        Some("covariance") => covariances::table(&mut rng),
+        Some("store") => stores::table(),
+        Some("steps") => steps::table(&mut rng),
+        Some("lanczos") => leading::table(&mut rng),
+        Some("codec") => codec::table(&mut rng),
+        Some("calls") => marked(&mut rng),
+        _ => {
+            marked(&mut rng);
+            blocks(&mut rng);
+            covariances::table(&mut rng);
+            stores::table();
+            steps::table(&mut rng);
+            leading::table(&mut rng);
         }
     }
-    for n in [16, 64, 128, 256] {
-        for kind in 0..3 {
-            let a = input(kind, n, &mut rng);
-            let (mut work, mut result) = (vec![0.0; 2 * n * n + n], vec![0.0; n + 2 * n * n]);
-            let done = svd(n, &a, &mut work, &mut result);
-            assert!(done.answer == 0, "answer {} place {} index {} count {}", done.answer, done.place, done.index, done.count);
-            let (mut b, mut s, mut space) = (vec![0.0; n * n], vec![0.0; n], vec![0.0; 64 * n + 64]);
-            let (mut u, mut vt) = (vec![0.0; n * n], vec![0.0; n * n]);
-            let (mut c, mut z, mut v, mut room) = (vec![0.0; n * n], vec![0.0; n], vec![0.0; n * n], vec![0.0; 2 * n + 6]);
-            let times = medians(&mut [
-                &mut platform::svd_call(n, n, &a),
-                &mut || drop(black_box(svd(n, &a, &mut work, &mut result))),
-                &mut || lapack.iter().for_each(|l| l.svd(n, &a, &mut b, &mut s, &mut u, &mut vt, &mut space)),
-                &mut || lapack.iter().for_each(|l| l.jacobi(n, &a, &mut c, &mut z, &mut v, &mut room)),
-            ]);
-            row("svd", KINDS[kind], n, &times, lapack.is_some());
-        }
-    }
-    for n in [64, 256] {
-        let a = input(0, n, &mut rng);
-        let right: Vec<f64> = (0..n).map(|_| rng.unit()).collect();
-        let (mut work, mut given) = (vec![0.0; 2 * n * n + n], vec![0.0; n + 2 * n * n]);
-        assert_eq!(svd(n, &a, &mut work, &mut given).answer, 0);
-        let mut answer = vec![0.0; n];
-        let times = medians(&mut [
-            &mut platform::solve_call(n, n, 0.0, &given, &right),
-            &mut || drop(black_box(solve(n, &given, &right, &mut answer))),
-        ]);
-        row("solve", KINDS[0], n, &times, false);
-        let mut answer = vec![0.0; n * n];
-        let times = medians(&mut [
-            &mut platform::pseudo_inverse_call(n, n, 0.0, &given),
-            &mut || drop(black_box(pseudo_inverse(n, &given, &mut answer))),
-        ]);
-        row("pseudo_inverse", KINDS[0], n, &times, false);
-        let times = medians(&mut [
-            &mut platform::qr_q_call(n, n, &a),
-            &mut || drop(black_box(qr_q(n, &a, &mut answer))),
-        ]);
-        row("qr_q", KINDS[0], n, &times, false);
-    }
-    blocks(&mut rng);
-    covariances::table(&mut rng);
-    stores::table();
-    steps::table(&mut rng);
-    leading::table(&mut rng);
 }

@@ -1,6 +1,7 @@
 //! Times of the archive's covariance beside the plain triple loop in C, by two compilers, and the float way: to f64, less the mean, then BLAS.
 
-use super::{Answer, crewelmarsh_covariance_abi4, dlopen, dlsym, medians};
+use super::lapack::{Dsyrk, dsyrk};
+use super::{Answer, crewelmarsh_covariance_abi4, least};
 use oracle::cases::Random;
 use std::hint::black_box;
 
@@ -9,26 +10,11 @@ unsafe extern "C" {
     fn triple_kit(n: usize, count: usize, samples: *const i16, matrix: *mut f64);
 }
 
-type Dsyrk = unsafe extern "C" fn(
-    *const u8, *const u8, *const i32, *const i32, *const f64, *const f64, *const i32, *const f64, *mut f64, *const i32, usize, usize,
-);
-
-fn blas() -> Option<Dsyrk> {
-    unsafe {
-        let mut library = dlopen(c"libblas.so.3".as_ptr().cast(), 2);
-        if library.is_null() {
-            library = dlopen(c"libblas.so".as_ptr().cast(), 2);
-        }
-        let found = if library.is_null() { std::ptr::null_mut() } else { dlsym(library, c"dsyrk_".as_ptr().cast()) };
-        if found.is_null() { None } else { Some(std::mem::transmute(found)) }
-    }
-}
-
-fn covariance(n: usize, count: usize, samples: &[i16], matrix: &mut [f64]) -> Answer {
+pub fn covariance(n: usize, count: usize, samples: &[i16], matrix: &mut [f64]) -> Answer {
     unsafe { crewelmarsh_covariance_abi4(n, count, samples.as_ptr(), samples.len(), matrix.as_mut_ptr(), matrix.len()) }
 }
 
-fn floats(n: usize, count: usize, samples: &[i16], planes: &mut [f64], matrix: &mut [f64], dsyrk: Dsyrk) {
+pub fn floats(n: usize, count: usize, samples: &[i16], planes: &mut [f64], matrix: &mut [f64], dsyrk: Dsyrk) {
     for (band, plane) in samples.chunks(count).zip(planes.chunks_mut(count)) {
         let mean = band.iter().map(|&s| s as f64).sum::<f64>() / count as f64;
         for (&s, p) in band.iter().zip(plane) {
@@ -45,9 +31,9 @@ fn floats(n: usize, count: usize, samples: &[i16], planes: &mut [f64], matrix: &
 pub fn table(rng: &mut Random) {
     const COUNT: usize = 46340;
     const MOST: usize = 65536;
-    let dsyrk = blas();
+    let dsyrk = dsyrk();
     let about = if dsyrk.is_some() { "" } else { " There is no BLAS here." };
-    println!("\nThe covariance of n bands: nanoseconds for each product of two samples, n(n + 1)/2 · N of them, medians of one run. The ratio is that of the C compiler's triple loop to ours.{about}\n");
+    println!("\nThe covariance of n bands: nanoseconds for each product of two samples, n(n + 1)/2 · N of them, the least of repeated calls. The ratio is that of the C compiler's triple loop to ours.{about}\n");
     println!("| n | N | ours | triple loop, cc | ratio | triple loop, the toolchain's clang | ratio | f64 and dsyrk |");
     println!("|---|---|---|---|---|---|---|---|");
     for (n, count) in [(16, MOST), (64, MOST), (256, MOST), (64, COUNT)] {
@@ -55,7 +41,7 @@ pub fn table(rng: &mut Random) {
         let (mut ours, mut cc, mut kit, mut blas) = (vec![0.0; n * n], vec![0.0; n * n], vec![0.0; n * n], vec![0.0; n * n]);
         let mut planes = vec![0.0; if dsyrk.is_some() { n * count } else { 0 }];
         assert_eq!(covariance(n, count, &samples, &mut ours).answer, 0);
-        let times = medians(&mut [
+        let times = least(&mut [
             &mut || drop(black_box(covariance(n, count, &samples, &mut ours))),
             &mut || unsafe { triple_cc(n, count, samples.as_ptr(), cc.as_mut_ptr()) },
             &mut || unsafe { triple_kit(n, count, samples.as_ptr(), kit.as_mut_ptr()) },

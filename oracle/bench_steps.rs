@@ -69,7 +69,7 @@ fn parts(n: usize, a: &[f64], work: &mut [f64], result: &mut [f64]) -> [f64; 4] 
 }
 
 pub fn table(rng: &mut Random) {
-    println!("\nA run in steps (edition 1) beside the one call: medians in microseconds. The ratio is the time in steps over the one call's.\n");
+    println!("\nA run in steps (edition 1) beside the one call: least times in microseconds. The ratio is the time in steps over the one call's.\n");
     println!("| input | n | one call | in steps | ratio | steps | start | longest step | finish |");
     println!("|---|---|---|---|---|---|---|---|---|");
     for n in [16, 64, 256] {
@@ -80,20 +80,16 @@ pub fn table(rng: &mut Random) {
             let one = eigen(n, 1, &a, &mut work, &mut result);
             let steps = whole(n, &a, &mut work2, &mut result2).answer;
             assert!([one.answer, one.place, one.index, one.count] == steps && one.answer == 0 && result == result2);
-            let times = medians(&mut [
+            let times = least(&mut [
                 &mut || drop(black_box(eigen(n, 1, &a, &mut work, &mut result))),
                 &mut || {
                     black_box(whole(n, &a, &mut work2, &mut result2));
                 },
             ]);
-            let mut all: Vec<[f64; 4]> = (0..21).map(|_| parts(n, &a, &mut work, &mut result)).collect();
-            let mut median = |k: usize| {
-                all.sort_by(|x, y| x[k].total_cmp(&y[k]));
-                all[10][k]
-            };
+            let parts = (0..21).map(|_| parts(n, &a, &mut work, &mut result)).reduce(|x, y| std::array::from_fn(|k| x[k].min(y[k]))).unwrap();
             println!(
                 "| {} | {n} | {:.1} | {:.1} | {:.2} | {} | {:.1} | {:.1} | {:.1} |",
-                KINDS[kind], times[0], times[1], times[1] / times[0], median(3), median(0), median(1), median(2)
+                KINDS[kind], times[0], times[1], times[1] / times[0], parts[3], parts[0], parts[1], parts[2]
             );
         }
     }

@@ -1,6 +1,6 @@
 //! Times of the archive's store: what a call takes to look the list through and to find its tile, and how fast it moves bytes, beside `memmove`.
 
-use super::{crewelmarsh_store_drop_abi4, crewelmarsh_store_fetch_abi4, crewelmarsh_store_length_abi4, crewelmarsh_store_put_abi4, crewelmarsh_store_setup_abi4, medians};
+use super::{crewelmarsh_store_drop_abi4, crewelmarsh_store_fetch_abi4, crewelmarsh_store_length_abi4, crewelmarsh_store_put_abi4, crewelmarsh_store_setup_abi4, least};
 use std::hint::black_box;
 
 const ENTRIES: usize = 32;
@@ -67,7 +67,7 @@ fn moved(n: usize) -> [f64; 4] {
     let held = [Store::new(&[0, 0, 0, 0, 0, 0, 0, n]), Store::new(&[0; 8])];
     let (mut a, mut b) = (before_put.clone(), before_put.clone());
     let (mut c, mut d) = (before_drop[0].clone(), before_drop[1].clone());
-    let t = medians(&mut [
+    let t = least(&mut [
         &mut || black_box(&mut whole[..]).copy_within(1..n + 1, 0),
         &mut || {
             a.back(&before_put);
@@ -98,7 +98,7 @@ pub fn table() {
     for held in [1, 8, 16, ENTRIES] {
         let s = Store::new(&vec![1; held]);
         let last = held as u16 - 1;
-        let time = medians(&mut [&mut || assert_eq!(black_box(s.length(black_box(last))), 1)]);
+        let time = least(&mut [&mut || assert_eq!(black_box(s.length(black_box(last))), 1)]);
         println!("| {held} | {:.3} |", time[0]);
     }
     println!("\nBytes moved, in nanoseconds, less what the call takes for an empty block; the share is that of memmove's speed:\n");

@@ -13,7 +13,7 @@ ORACLE_SOURCES := $(wildcard oracle/src/*.rs)
 ORACLE_RUSTC := $(RUSTC) --edition 2024 -C opt-level=3
 ORACLE_ENTRIES := $(ENTRIES:crewelmarsh_%=%)
 
-.PHONY: verbatim oracle oracle-check oracle-mutants oracle-standin findings cases compare compare-hypot gain bench bench-blocks bench-root bench-steps bench-lanczos has-rustc
+.PHONY: verbatim oracle oracle-check oracle-mutants oracle-standin findings cases compare compare-hypot gain bench bench-plot plot-check bench-calls bench-codec bench-blocks bench-root bench-steps bench-lanczos has-rustc
 
 has-rustc:
 	@command -v $(RUSTC) >/dev/null || { echo "the oracle is Rust, and there is no $(RUSTC) here"; exit 1; }
@@ -163,31 +163,51 @@ $(ORACLE)/triple_kit.o: oracle/triple.c
 	@mkdir -p $(ORACLE)
 	$(CLANG) $(OWN_CLANG) -DTRIPLE=triple_kit -c $< -o $@
 
-$(ORACLE)/bench: oracle/bench.rs oracle/bench_covariance.rs oracle/bench_store.rs oracle/bench_steps.rs oracle/bench_lanczos.rs $(ORACLE)/liboracle.rlib $(MEASURED) $(TRIPLES)
+$(ORACLE)/bench: oracle/bench.rs $(wildcard oracle/bench_*.rs) $(ORACLE)/liboracle.rlib $(MEASURED) $(TRIPLES)
 	$(ORACLE_RUSTC) --extern oracle=$(ORACLE)/liboracle.rlib -C link-arg=$(MEASURED) $(TRIPLES:%=-C link-arg=%) $< -o $@
 
+# OpenBLAS, where that is the machine's, in one thread like the others.
+BENCH := OPENBLAS_NUM_THREADS=1 $(ORACLE)/bench
+
 bench: $(ORACLE)/bench
-	$(ORACLE)/bench
+	$(BENCH)
+
+# The same, and its first two tables put into docs/BENCHMARKS.md, with the picture of them.
+bench-plot: $(ORACLE)/bench
+	$(BENCH) >$(ORACLE)/bench.md
+	cat $(ORACLE)/bench.md
+	tools/plot --write $(ORACLE)/bench.md
+
+# Whether the picture is that of the tables.
+plot-check:
+	@tools/plot --check
+
+# The calls and the codec's path alone: what the picture shows; and the path alone.
+bench-calls: $(ORACLE)/bench
+	$(BENCH) calls
+
+bench-codec: $(ORACLE)/bench
+	$(BENCH) codec
 
 # The blocks' rows alone, in a second.
 bench-blocks: $(ORACLE)/bench
-	$(ORACLE)/bench blocks
+	$(BENCH) blocks
 
 # The covariance's rows alone.
 bench-covariance: $(ORACLE)/bench
-	$(ORACLE)/bench covariance
+	$(BENCH) covariance
 
 # The store's rows alone.
 bench-store: $(ORACLE)/bench
-	$(ORACLE)/bench store
+	$(BENCH) store
 
 # A run in steps beside the one call, alone.
 bench-steps: $(ORACLE)/bench
-	$(ORACLE)/bench steps
+	$(BENCH) steps
 
 # The leading pairs alone beside all of them.
 bench-lanczos: $(ORACLE)/bench
-	$(ORACLE)/bench lanczos
+	$(BENCH) lanczos
 
 # The root as it is compiled, held to the processor's and measured beside it and beside what stood there before, and both editions of hypot; no archive and no
 # rustc.

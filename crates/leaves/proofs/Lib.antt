@@ -3,3 +3,4 @@ mod Less
 mod Sign
 mod Search
 mod Class
+mod All

@@ -3,6 +3,7 @@ ghost use mathlib.Core.Path.{_≡_};
 ghost use Prim.Native.Nat.{_+_, _*_, _^_, _≤_, _<_};
 ghost use lib.ListN.{length};
 ghost use Rattle.leaves.specs.Leaf.{magnitude, larger, isFinite, hypotOf, hypot};
+ghost use Rattle.leaves.specs.Finite.{allFinite};
 ghost use Rattle.leaves.specs.Scan.{classOf, isBad, firstBad, lowerOf, firstBadLower, byRows};
 ghost use Rattle.leaves.specs.ScanLaws.{after, firstBadOf, behind, Room};
 use grid::at1;
@@ -99,8 +100,19 @@ pub fn behind(before: usize, b: Bad) -> Bad
     }
 }
 
-// The first number of d that is not finite.
-pub fn first_bad(d: &[f64]) -> Bad
+// Whether all of d is finite: each number is looked at, with no branch on any, so that several are tested at once. The scans below ask this first, and walk only
+// where there is something to find.
+fn all_finite(d: &[f64]) -> bool
+    ensures { λ r. ⌜ r ≡ allFinite (now (d .entry)) ⌝ }
+{
+    let mut all = true;
+    for k in 0..d.len() {
+        all = all & is_finite(at1(d, k));
+    }
+    all
+}
+
+fn walk(d: &[f64]) -> Bad
     ensures { λ r. ⌜ r ≡ firstBad (now (d .entry)) ⌝ }
 {
     for k in 0..d.len() {
@@ -110,6 +122,16 @@ pub fn first_bad(d: &[f64]) -> Bad
         }
     }
     Bad::Nowhere
+}
+
+// The first number of d that is not finite.
+pub fn first_bad(d: &[f64]) -> Bad
+    ensures { λ r. ⌜ r ≡ firstBad (now (d .entry)) ⌝ }
+{
+    if all_finite(d) {
+        return Bad::Nowhere;
+    }
+    walk(d)
 }
 
 // The place after p, row by row, where n are in a row.
@@ -133,8 +155,7 @@ fn lower_of(p: Place, x: f64) -> f64
     0.0
 }
 
-// The first number that is not finite on and below the diagonal of the matrix a, which stands row by row with n in a row.
-pub fn first_bad_lower(n: usize, a: &[f64]) -> Bad
+fn walk_lower(n: usize, a: &[f64]) -> Bad
     ensures { λ r. ⌜ r ≡ firstBadLower n (now (a .entry)) ⌝ }
 {
     let mut p = Place { i: 0, j: 0 };
@@ -146,6 +167,16 @@ pub fn first_bad_lower(n: usize, a: &[f64]) -> Bad
         p = after(n, p);
     }
     Bad::Nowhere
+}
+
+// The first number that is not finite on and below the diagonal of the matrix a, which stands row by row with n in a row.
+pub fn first_bad_lower(n: usize, a: &[f64]) -> Bad
+    ensures { λ r. ⌜ r ≡ firstBadLower n (now (a .entry)) ⌝ }
+{
+    if all_finite(a) {
+        return Bad::Nowhere;
+    }
+    walk_lower(n, a)
 }
 
 // The first number that is not finite of the matrix v, which stands column by column, counted row by row.
@@ -168,6 +199,9 @@ fn first_bad_of(rows: usize, cols: usize, v: &[f64]) -> Bad
 pub fn first_bad_cell(cols: usize, v: &[f64]) -> Bad
     ensures { λ r. ⌜ r ≡ firstBad (byRows cols (now (v .entry))) ⌝ }
 {
+    if all_finite(v) {
+        return Bad::Nowhere;
+    }
     if cols == 0 {
         return Bad::Nowhere;
     }

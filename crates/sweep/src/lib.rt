@@ -6,11 +6,11 @@ ghost use Prim.Native.Nat.{_+_, _*_, _≤_, _<_};
 ghost use lib.ListN.{length};
 ghost use Rattle.sweep.specs.Kept.{Sized};
 ghost use Rattle.sweep.specs.Sweep.{gram, skipped, signOf, rotationOf, turned, pairDone, pairsOf, sweep};
-use grid::EPSILON;
 use grid::at1;
 use grid::put1;
 use leaves::magnitude;
 use root::root;
+use skip::at_most;
 
 // The sub-Gram of a pair of columns: alpha and beta are their squared norms, gamma their product.
 pub struct Sums {
@@ -54,7 +54,7 @@ fn skipped(x: Sums) -> bool
     if x.gamma == 0.0 {
         return true;
     }
-    magnitude(x.gamma) <= EPSILON * root(x.alpha * x.beta)
+    at_most(magnitude(x.gamma), x.alpha, x.beta)
 }
 
 // -0.0 takes +1.0.

@@ -3,51 +3,14 @@ ghost use mathlib.Core.Path.{_≡_};
 ghost use Prim.Native.Nat.{_+_, _*_, _<_};
 ghost use lib.ListN.{length};
 ghost use Rattle.grid.specs.CellLaws.{Sized};
-ghost use Rattle.tred.specs.Tred.{columnOver, dot, takeOff, turnColumns, clearColumn, apply, accumulate, accumulation, copyLast, moveLast, tred2};
+ghost use Rattle.tred.specs.Tred.{clearColumn, apply, accumulate, accumulation, copyLast, moveLast, tred2};
+use columns::column_over;
+use columns::turn_columns;
 use grid::at;
 use grid::at1;
 use grid::put;
 use grid::put1;
 use reduction::reduction;
-
-fn column_over(n: usize, m: usize, h: f64, v: &[f64], d: &mut [f64])
-    requires { ⌜ (m < n) × (length (now v) ≡ n * n) × (length (now d) ≡ n) ⌝ }
-    ensures { λ _. ⌜ now (d .exit) ≡ columnOver n m h (now (v .entry)) (now (d .entry)) ⌝ }
-{
-    for k in 0..m {
-        put1(d, k, at(v, n, n, k, m) / h);
-    }
-}
-
-fn dot(n: usize, m: usize, j: usize, v: &[f64]) -> f64
-    requires { ⌜ (m < n) × (j < n) × (length (now v) ≡ n * n) ⌝ }
-    ensures { λ r. ⌜ r ≡ dot n m j (now (v .entry)) ⌝ }
-{
-    let mut g = 0.0;
-    for k in 0..m {
-        g = g + at(v, n, n, k, m) * at(v, n, n, k, j);
-    }
-    g
-}
-
-fn take_off(n: usize, m: usize, j: usize, g: f64, v: &mut [f64], d: &[f64])
-    requires { ⌜ (m < n) × (j < n) × (length (now v) ≡ n * n) × (length (now d) ≡ n) ⌝ }
-    ensures { λ _. ⌜ now (v .exit) ≡ takeOff n m j g (now (d .entry)) (now (v .entry)) ⌝ }
-{
-    for k in 0..m {
-        put(v, n, n, k, j, at(v, n, n, k, j) - g * at1(d, k));
-    }
-}
-
-fn turn_columns(n: usize, m: usize, v: &mut [f64], d: &[f64])
-    requires { ⌜ (m < n) × (length (now v) ≡ n * n) × (length (now d) ≡ n) ⌝ }
-    ensures { λ _. ⌜ now (v .exit) ≡ turnColumns n m (now (d .entry)) (now (v .entry)) ⌝ }
-{
-    for j in 0..m {
-        let g = dot(n, m, j, v);
-        take_off(n, m, j, g, v, d);
-    }
-}
 
 fn clear_column(n: usize, m: usize, v: &mut [f64])
     requires { ⌜ (m < n) × (length (now v) ≡ n * n) ⌝ }

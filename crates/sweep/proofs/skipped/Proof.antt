@@ -12,12 +12,12 @@ returns c = rw (c .if1 .taken)
 magnitude-requires : tie.Need-magnitude-requires
 magnitude-requires c κs = search needs
 
-root-requires : tie.Need-root-requires
-root-requires c κs = search needs
+at-most-requires : tie.Need-at-most-requires
+at-most-requires c κs = search needs
 
 returns-2 : tie.Need-returns-2
 unfolding skipped
-returns-2 c = rw (c .before .before .before .if1 .left, ← c .before .before .magnitude .ensures, ← c .root .ensures .0)
+returns-2 c = rw (c .before .before .if1 .left, ← c .before .magnitude .ensures, ← c .at-most .ensures)
 
 pub skipped-spec : {M : Type 1} → statement M
-skipped-spec = tie.close (tie.spec returns magnitude-requires root-requires returns-2)
+skipped-spec = tie.close (tie.spec returns magnitude-requires at-most-requires returns-2)

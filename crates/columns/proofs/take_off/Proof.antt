@@ -1,5 +1,5 @@
 -- Generated from the answers file beside it by tools/prove/prove.py: edit that.
--- `tred2::take_off` meets its contract.
+-- `columns::take_off` meets its contract.
 use mathlib.Core.Path.{_≡_, refl}
 use Prim.Native.Nat.{_-_, _≤_}
 use native.Mathlib.Omega.{arith}
@@ -8,8 +8,8 @@ use lib.ListN.{length}
 use Rattle.grid.specs.Loop.{upto}
 use Rattle.grid.specs.LoopLaws.{start, next, done}
 use Rattle.tred.specs.Tred.{takeStep, takeOff}
-use Rattle.tred2.proofs.take_off.Statement.{statement}
-use Rattle.tred2.proofs.take_off.Tie as tie
+use Rattle.columns.proofs.take_off.Statement.{statement}
+use Rattle.columns.proofs.take_off.Tie as tie
 
 abbrev Inv-loop : tie.InvT-loop
 Inv-loop n m j g v₀ d k₀ v k = (k ≤ m) × (length v ≡ length v₀) × (v ≡ upto (takeStep n j g d) 0 k v₀)

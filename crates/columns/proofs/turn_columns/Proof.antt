@@ -1,24 +1,31 @@
 -- Generated from the answers file beside it by tools/prove/prove.py: edit that.
--- `tred2::turn_columns` meets its contract.
+-- `columns::turn_columns` meets its contract.
 use mathlib.Core.Path.{_≡_, refl}
-use Prim.Native.Nat.{_-_, _≤_}
+use Prim.Native.Nat.{_-_, _*_, _/_, _≤_}
 use native.Mathlib.Omega.{arith}
 use borrow.Author.Needs.{needs}
 use lib.ListN.{length}
 use Rattle.grid.specs.Loop.{upto}
-use Rattle.grid.specs.LoopLaws.{start, next, done}
+use Rattle.grid.specs.LoopLaws.{start, next}
 use Rattle.tred.specs.Tred.{turnStep, turnColumns}
-use Rattle.tred2.proofs.turn_columns.Statement.{statement}
-use Rattle.tred2.proofs.turn_columns.Tie as tie
+use Rattle.columns.proofs.Apart.{rest}
+use Rattle.columns.proofs.turn_columns.Statement.{statement}
+use Rattle.columns.proofs.turn_columns.Tie as tie
 
 abbrev Inv-loop : tie.InvT-loop
-Inv-loop n m v₀ d j₀ v j = (j ≤ m) × (length v ≡ length v₀) × (v ≡ upto (turnStep n m d) 0 j v₀)
+Inv-loop n m v₀ d j₀ v j = (j ≤ m) × (m / 4 * 4 ≤ j) × (length v ≡ length v₀) × (v ≡ upto (turnStep n m d) (m / 4 * 4) j v₀)
 
 abbrev μ-loop : tie.MeasureT-loop
 μ-loop n m v₀ d j₀ v j = m - j
 
+turn-fours-requires : tie.Need-turn-fours-requires Inv-loop μ-loop
+turn-fours-requires c κs = search needs
+
+mul-j : tie.Need-mul-j Inv-loop μ-loop
+mul-j c = omega arith
+
 loop-holds : tie.Need-loop-holds Inv-loop μ-loop
-loop-holds c = (omega arith, refl, start _ _ _)
+loop-holds c = (omega arith, omega arith, refl, start _ _ _)
 
 dot-requires : tie.Need-dot-requires Inv-loop μ-loop
 dot-requires c κs = search needs
@@ -33,14 +40,14 @@ loop-less : tie.Need-loop-less Inv-loop μ-loop
 loop-less c = omega arith
 
 loop-again : tie.Need-loop-again Inv-loop μ-loop
-loop-again c = (omega arith, omega arith, next _ _ _ _ (omega arith) (c .before .before .before .before .before .before .before .loop .inv .2) (rw (← c .before .before .before .before .dot .ensures, ← c .before .before .take-off .ensures)))
+loop-again c = (omega arith, omega arith, omega arith, next _ _ _ _ (omega arith) (c .before .before .before .before .before .before .before .loop .inv .3) (rw (← c .before .before .before .before .dot .ensures, ← c .before .before .take-off .ensures)))
 
 same-length : tie.Need-same-length Inv-loop μ-loop
 same-length c = omega arith
 
 returns : tie.Need-returns Inv-loop μ-loop
 unfolding turnColumns
-returns c = done _ _ _ (omega arith) (omega arith) (c .before .loop .inv .2)
+returns c = rest _ _ _ _ _ _ _ (omega arith) (omega arith) (omega arith) (c .before .before .before .before .turn-fours .ensures) (c .before .loop .inv .3)
 
 pub turn-columns-spec : {M : Type 1} → statement M
 turn-columns-spec =
@@ -48,6 +55,8 @@ turn-columns-spec =
     (tie.spec
     Inv-loop
     μ-loop
+    turn-fours-requires
+    mul-j
     loop-holds
     dot-requires
     take-off-requires

@@ -1,5 +1,5 @@
 -- Generated from the answers file beside it by tools/prove/prove.py: edit that.
--- `tred2::dot` meets its contract.
+-- `columns::dot` meets its contract.
 use mathlib.Core.Path.{_≡_}
 use Prim.Native.Nat.{_-_, _≤_}
 use native.Mathlib.Omega.{arith}
@@ -8,8 +8,8 @@ use Rattle.grid.specs.Loop.{upto}
 use Rattle.grid.specs.LoopLaws.{start, next, done}
 use Rattle.tred.specs.Tred.{dotStep, dot}
 use Rattle.grid.specs.Real.{zero64}
-use Rattle.tred2.proofs.dot.Statement.{statement}
-use Rattle.tred2.proofs.dot.Tie as tie
+use Rattle.columns.proofs.dot.Statement.{statement}
+use Rattle.columns.proofs.dot.Tie as tie
 
 abbrev Inv-loop : tie.InvT-loop
 Inv-loop n m j v g₀ k₀ g k = (k ≤ m) × (g ≡ upto (dotStep n m j v) 0 k zero64)

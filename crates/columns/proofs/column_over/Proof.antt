@@ -1,5 +1,5 @@
 -- Generated from the answers file beside it by tools/prove/prove.py: edit that.
--- `tred2::column_over` meets its contract.
+-- `columns::column_over` meets its contract.
 use mathlib.Core.Path.{_≡_, refl}
 use Prim.Native.Nat.{_-_, _≤_}
 use native.Mathlib.Omega.{arith}
@@ -8,8 +8,8 @@ use lib.ListN.{length}
 use Rattle.grid.specs.Loop.{upto}
 use Rattle.grid.specs.LoopLaws.{start, next, done}
 use Rattle.tred.specs.Tred.{columnOverStep, columnOver}
-use Rattle.tred2.proofs.column_over.Statement.{statement}
-use Rattle.tred2.proofs.column_over.Tie as tie
+use Rattle.columns.proofs.column_over.Statement.{statement}
+use Rattle.columns.proofs.column_over.Tie as tie
 
 abbrev Inv-loop : tie.InvT-loop
 Inv-loop n m h v d₀ k₀ d k = (k ≤ m) × (length d ≡ length d₀) × (d ≡ upto (columnOverStep n m h v) 0 k d₀)

@@ -1,0 +1,2 @@
+-- Columns turned by fours.
+pub mod Fours

@@ -1,0 +1,2 @@
+-- The skip test with no root.
+pub mod Skip
