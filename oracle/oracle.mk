@@ -211,7 +211,7 @@ bench-lanczos: $(ORACLE)/bench
 
 # The root as it is compiled, held to the processor's and measured beside it and beside what stood there before, and both editions of hypot; no archive and no
 # rustc.
-$(ORACLE)/root_leaves.o: oracle/root.sh oracle/module.sh oracle/compile.sh $(wildcard crates/root/src/*.rt crates/leaves/src/*.rt crates/hypot2/src/*.rt crates/vectors/src/*.rt)
+$(ORACLE)/root_leaves.o: oracle/root.sh oracle/module.sh oracle/compile.sh $(foreach room,root leaves hypot2 vectors,$(wildcard crates/$(room)/src/*.rt))
 	@mkdir -p $(ORACLE)
 	oracle/root.sh $@
 
