@@ -1,20 +1,15 @@
 // One case of the oracle's list: its call on arrays of its lengths, and whether what came back is what the list says.
+use answers::Answer;
 use cases::Asked;
-use cases::Inputs;
-use cases::Lengths;
+use cases::Case;
 use cases::Wanted;
 
-fn call(c: Asked, a: &[f64], b: &[f64], work: &mut [f64], result: &mut [f64]) -> answers::Answer {
+// The calls that are lent no work.
+fn call_alone(c: Asked, a: &[f64], b: &[f64], result: &mut [f64]) -> Answer {
     let m = c.first as usize;
     let n = c.second as usize;
     let u = c.third as usize;
     let vt = c.fourth as usize;
-    if c.function == 1 {
-        return eigen::symmetric_eigen(m, n, u, a, work, result);
-    }
-    if c.function == 2 {
-        return svd::svd(m, n, u, vt, c.fifth as usize, a, work, result);
-    }
     if c.function == 3 {
         return solve::solve(m, n, u, vt, cases::number(c.fifth), a, b, result);
     }
@@ -24,7 +19,29 @@ fn call(c: Asked, a: &[f64], b: &[f64], work: &mut [f64], result: &mut [f64]) ->
     qr::qr_q(m, n, a, result)
 }
 
-pub fn numbers_agree(got: answers::Answer, wanted: Wanted) -> bool {
+fn call(c: Asked, a: &[f64], b: &[f64], work: &mut [f64], result: &mut [f64]) -> Answer {
+    let m = c.first as usize;
+    let n = c.second as usize;
+    let u = c.third as usize;
+    if c.function == 1 {
+        return eigen::symmetric_eigen(m, n, u, a, work, result);
+    }
+    if c.function == 2 {
+        return svd::svd(
+            m,
+            n,
+            u,
+            c.fourth as usize,
+            c.fifth as usize,
+            a,
+            work,
+            result,
+        );
+    }
+    call_alone(c, a, b, result)
+}
+
+pub fn numbers_agree(got: Answer, wanted: Wanted) -> bool {
     if got.answer as u64 != wanted.answer {
         return false;
     }
@@ -37,14 +54,7 @@ pub fn numbers_agree(got: answers::Answer, wanted: Wanted) -> bool {
     got.count as u64 == wanted.count
 }
 
-fn cells_agree(h: u64, wanted: Wanted, wrong: u64) -> bool {
-    if h != wanted.hash {
-        return false;
-    }
-    wrong == 0
-}
-
-fn agrees(
+fn call_agrees(
     c: Asked,
     wanted: Wanted,
     a: &[f64],
@@ -53,12 +63,11 @@ fn agrees(
     result: &mut [f64],
 ) -> bool {
     let got = call(c, a, b, work, result);
-    let wrong = cases::wrong(result, wanted.shown);
-    let h = cases::hashed2(work, result);
-    if !numbers_agree(got, wanted) {
-        return false;
+    let good = cases::arrays_agree(wanted, work, result);
+    if numbers_agree(got, wanted) {
+        return good;
     }
-    cells_agree(h, wanted, wrong)
+    false
 }
 
 fn row_agrees(c: Asked, wanted: Wanted, a: &[f64]) -> bool {
@@ -70,71 +79,42 @@ fn row_agrees(c: Asked, wanted: Wanted, a: &[f64]) -> bool {
         c.fifth as usize,
         a,
     );
-    let wrong = cases::wrong(row, wanted.shown);
-    if row.len() as u64 != wanted.answer {
-        return false;
+    let good = cases::row_agrees(wanted, row);
+    if row.len() as u64 == wanted.answer {
+        return good;
     }
-    cells_agree(cases::hashed(row), wanted, wrong)
+    false
+}
+
+fn agrees(c: Case, a: &[f64], b: &[f64], work: &mut [f64], result: &mut [f64]) -> bool {
+    if c.asked.function == 6 {
+        return row_agrees(c.asked, c.wanted, a);
+    }
+    call_agrees(c.asked, c.wanted, a, b, work, result)
 }
 
 // Prepares the arrays, which have the case's lengths, makes the call and compares.
-fn case(
-    c: Asked,
-    inputs: Inputs,
-    wanted: Wanted,
-    a: &mut [f64],
-    b: &mut [f64],
-    work: &mut [f64],
-    result: &mut [f64],
-) -> bool {
-    let scale = cases::number(inputs.scale);
-    let x = cases::give(a, inputs.kind, inputs.seed, scale);
-    cases::give(b, inputs.kind, x, scale);
-    cases::leave(work, inputs.old);
-    cases::leave(
-        result,
-        std::num::wrapping_add_u64(inputs.old, work.len() as u64),
-    );
-    if c.function == 6 {
-        return row_agrees(c, wanted, a);
-    }
-    agrees(c, wanted, a, b, work, result)
+fn case(c: Case, a: &mut [f64], b: &mut [f64], work: &mut [f64], result: &mut [f64]) -> bool {
+    cases::give_both(c.inputs, a, b);
+    cases::leave_both(c.inputs, work, result);
+    agrees(c, a, b, work, result)
 }
 
 // The case on parts of the arrays that have its lengths; false where they have no room for it.
-pub fn fitted(
-    c: Asked,
-    lengths: Lengths,
-    inputs: Inputs,
-    wanted: Wanted,
-    a: &mut [f64],
-    b: &mut [f64],
-    work: &mut [f64],
-    result: &mut [f64],
-) -> bool {
-    let i = lengths.a as usize;
-    if a.len() < i {
+pub fn fitted(c: Case, a: &mut [f64], b: &mut [f64], work: &mut [f64], result: &mut [f64]) -> bool {
+    let l = c.lengths;
+    if !cases::room(l, a.len(), b.len(), work.len(), result.len()) {
         return false;
     }
-    let j = lengths.b as usize;
-    if b.len() < j {
-        return false;
-    }
-    let k = lengths.work as usize;
-    if work.len() < k {
-        return false;
-    }
-    let l = lengths.result as usize;
-    if result.len() < l {
-        return false;
-    }
+    let i = l.a as usize;
+    let j = l.b as usize;
+    let k = l.work as usize;
+    let n = l.result as usize;
     case(
         c,
-        inputs,
-        wanted,
         &mut a[..i],
         &mut b[..j],
         &mut work[..k],
-        &mut result[..l],
+        &mut result[..n],
     )
 }

@@ -1,24 +1,25 @@
 // The oracle's list of cases, read from standard input (oracle/README.md has its form): its words, what a case is, the arrays before a call
 // and the hash of those after it.
+ghost use mathlib.Core.Path.{_≡_};
+ghost use mathlib.Core.Bool.{true};
+ghost use Prim.Native.Nat.{_≤_};
 
 // ---- words and numbers
 
-fn wide(x: u8) -> u64 {
-    x as u64
+// A word longer by bytes at its low end: one, and four.
+fn longer(high: u64, low: u8) -> u64 {
+    (high << 8) | (low as u64)
+}
+
+fn longer4(high: u64, p: u8, q: u8, r: u8, s: u8) -> u64 {
+    longer(longer(longer(longer(high, p), q), r), s)
 }
 
 // The next word of the list, 0 past its end.
 fn next() -> u64 {
     let mut b = [0u8; 8];
     io::read_full(0, &mut b);
-    wide(b[0])
-        | (wide(b[1]) << 8)
-        | (wide(b[2]) << 16)
-        | (wide(b[3]) << 24)
-        | (wide(b[4]) << 32)
-        | (wide(b[5]) << 40)
-        | (wide(b[6]) << 48)
-        | (wide(b[7]) << 56)
+    longer4(longer4(0, b[7], b[6], b[5], b[4]), b[3], b[2], b[1], b[0])
 }
 
 // The number with these bits; one NaN for all of them.
@@ -77,7 +78,7 @@ pub struct Wanted {
     pub shown: u64,
 }
 
-pub fn read_asked() -> Asked {
+fn read_asked() -> Asked {
     Asked {
         function: next(),
         first: next(),
@@ -88,7 +89,7 @@ pub fn read_asked() -> Asked {
     }
 }
 
-pub fn read_lengths() -> Lengths {
+fn read_lengths() -> Lengths {
     Lengths {
         a: next(),
         b: next(),
@@ -97,7 +98,7 @@ pub fn read_lengths() -> Lengths {
     }
 }
 
-pub fn read_inputs() -> Inputs {
+fn read_inputs() -> Inputs {
     Inputs {
         old: next(),
         kind: next(),
@@ -106,7 +107,7 @@ pub fn read_inputs() -> Inputs {
     }
 }
 
-pub fn read_wanted() -> Wanted {
+fn read_wanted() -> Wanted {
     Wanted {
         answer: next(),
         place: next(),
@@ -115,6 +116,39 @@ pub fn read_wanted() -> Wanted {
         hash: next(),
         shown: next(),
     }
+}
+
+// A case of the list: its call, the arrays' lengths, what they hold before and what must come back.
+pub struct Case {
+    pub asked: Asked,
+    pub lengths: Lengths,
+    pub inputs: Inputs,
+    pub wanted: Wanted,
+}
+
+pub fn read_case() -> Case {
+    Case {
+        asked: read_asked(),
+        lengths: read_lengths(),
+        inputs: read_inputs(),
+        wanted: read_wanted(),
+    }
+}
+
+// Whether arrays that are so long have room for the case's.
+pub fn room(l: Lengths, a: usize, b: usize, work: usize, result: usize) -> bool
+    ensures { λ r. ⌜ (r ≡ true → (l .a ≤ a) × (l .b ≤ b) × (l .work ≤ work) × (l .result ≤ result)) ⌝ }
+{
+    if a < l.a as usize {
+        return false;
+    }
+    if b < l.b as usize {
+        return false;
+    }
+    if work < l.work as usize {
+        return false;
+    }
+    l.result as usize <= result
 }
 
 // ---- the arrays before a call
@@ -138,7 +172,7 @@ fn input(kind: u64, x: u64, scale: f64) -> f64 {
 }
 
 // Fills cells with inputs, and comes back with the generator's state behind them.
-pub fn give(cells: &mut [f64], kind: u64, seed: u64, scale: f64) -> u64 {
+fn give(cells: &mut [f64], kind: u64, seed: u64, scale: f64) -> u64 {
     let mut x = seed;
     for k in 0..cells.len() {
         x = step(x);
@@ -148,12 +182,24 @@ pub fn give(cells: &mut [f64], kind: u64, seed: u64, scale: f64) -> u64 {
 }
 
 // Fills cells with old contents, whose words count on from the first.
-pub fn leave(cells: &mut [f64], first: u64) {
+fn leave(cells: &mut [f64], first: u64) {
     let mut w = first;
     for k in 0..cells.len() {
         grid::put1(cells, k, number(w));
         w = std::num::wrapping_add_u64(w, 1);
     }
+}
+
+// The two inputs, of which the second goes on where the first ends.
+pub fn give_both(i: Inputs, a: &mut [f64], b: &mut [f64]) {
+    let scale = number(i.scale);
+    let x = give(a, i.kind, i.seed, scale);
+    give(b, i.kind, x, scale);
+}
+
+pub fn leave_both(i: Inputs, work: &mut [f64], result: &mut [f64]) {
+    leave(work, i.old);
+    leave(result, std::num::wrapping_add_u64(i.old, work.len() as u64));
 }
 
 // ---- the arrays after a call
@@ -167,7 +213,7 @@ fn hash(cells: &[f64], so_far: u64) -> u64 {
 }
 
 // The hash of one array, and of the two that a call leaves.
-pub fn hashed(cells: &[f64]) -> u64 {
+fn hashed(cells: &[f64]) -> u64 {
     hash(cells, 0x9e37_79b9_7f4a_7c15)
 }
 
@@ -188,10 +234,27 @@ fn differs(x: u64, y: u64) -> u64 {
 }
 
 // How many of the list's next words are not those of the cells.
-pub fn wrong(cells: &[f64], words: u64) -> u64 {
+fn wrong(cells: &[f64], words: u64) -> u64 {
     let mut count = 0;
     for k in 0..words as usize {
         count = std::num::wrapping_add_u64(count, differs(word_at(cells, k), word(number(next()))));
     }
     count
+}
+
+// Whether this is the hash that is wanted, and the cells are those that the list shows.
+fn agrees(wanted: Wanted, h: u64, cells: &[f64]) -> bool {
+    let wrong = wrong(cells, wanted.shown);
+    if h != wanted.hash {
+        return false;
+    }
+    wrong == 0
+}
+
+pub fn row_agrees(wanted: Wanted, row: &[f64]) -> bool {
+    agrees(wanted, hashed(row), row)
+}
+
+pub fn arrays_agree(wanted: Wanted, work: &[f64], result: &[f64]) -> bool {
+    agrees(wanted, hashed2(work, result), result)
 }

@@ -1,5 +1,5 @@
 -- What is lent to the run in parts, and what is put together from them afterwards. Laws only.
--- `outward` and `laid` are what two functions of the code do on the way; no public promise cites them.
+-- `outward` is what a function of the code does on the way; no public promise cites it.
 use mathlib.Core.Path.{_≡_, refl, sym, ap, _∙_}
 use mathlib.Core.Bool.{Bool, true, false, cond}
 use mathlib.Core.List.{List, [], _++_, append-nil}
@@ -11,19 +11,13 @@ use lib.Seq.{take-all, take-at, drop-at, length-take-le}
 use Rattle.grid.specs.Real.{Vec, zero64, zeros}
 use Rattle.answers.specs.Answers.{passed}
 use Rattle.answers.specs.declared.Answer.{Answer}
+use Rattle.handed.specs.Laid.{laid}
 use Rattle.layout.specs.Layout.{rows}
 use Rattle.eigen.specs.Eigen.{decomposed, given, cleared}
 
 -- after the run: where it is done the vectors stand row by row
 unfoldable pub outward : ℕ → Answer × Vec × Vec × Vec → Answer × Vec × Vec × Vec
 outward n (x, v, d, e) = cond (passed x) (x, rows n v, d, e) (x, v, d, e)
-
--- work and result, whose back holds the vectors, after a run with the values d
-unfoldable pub laid : Answer → Vec → Vec → Vec → Answer × Vec × Vec
-laid x d work result =
-    cond (passed x)
-    (x, zeros (length work), d ++ drop (length d) result)
-    (x, zeros (length work), zeros (length result))
 
 -- ---- the parts of a list of zeros
 

@@ -1,12 +1,11 @@
 // `symmetric_eigen`: the eigenvalues of a symmetric matrix, ascending, and their eigenvectors.
 ghost use mathlib.Core.Path.{_≡_};
-ghost use mathlib.Core.List.{_++_};
 ghost use Prim.Native.Nat.{_+_, _*_, _<_, _≤_};
-ghost use lib.ListN.{length, drop};
+ghost use lib.ListN.{length};
 ghost use Rattle.grid.specs.Real.{zeros};
 ghost use Rattle.grid.specs.CellLaws.{Sized};
 ghost use Rattle.eigen.specs.Eigen.{mark0, afterTred, decomposed, given, entered, eigen};
-ghost use Rattle.eigen.specs.Lent.{outward, laid};
+ghost use Rattle.eigen.specs.Lent.{outward};
 use answers::Answer;
 use answers::done;
 use answers::fitting_edition;
@@ -15,18 +14,17 @@ use answers::marked;
 use answers::refusal7;
 use answers::refused;
 use grid::LARGEST;
-use grid::at1;
 use grid::fill;
-use grid::put1;
+use handed::give;
 use layout::columns;
 use layout::rows;
 use leaves::Bad;
-use leaves::behind;
-use leaves::first_bad_cell;
-use leaves::first_bad_lower;
 use leaves::is_bad;
 use pass::mark1;
 use ql::tql2;
+use scan::behind;
+use scan::first_bad_cell;
+use scan::first_bad_lower;
 use tred2::tred2;
 
 // Mark 0.
@@ -95,30 +93,6 @@ fn decompose_rows(
         return r;
     }
     rows(n, v);
-    r
-}
-
-// The first numbers of result become those of d.
-pub fn put_first(d: &[f64], result: &mut [f64])
-    requires { ⌜ length (now d) ≤ length (now result) ⌝ }
-    ensures { λ _. ⌜ now (result .exit) ≡ now (d .entry) ++ drop (length (now (d .entry))) (now (result .entry)) ⌝ }
-{
-    for k in 0..d.len() {
-        put1(result, k, at1(d, k));
-    }
-}
-
-// What is lent, after a run with the values d.
-pub fn give(r: Answer, d: &[f64], work: &mut [f64], result: &mut [f64]) -> Answer
-    requires { ⌜ length (now d) ≤ length (now result) ⌝ }
-    ensures { λ q. ⌜ (q, now (work .exit), now (result .exit)) ≡ laid r (now (d .entry)) (now (work .entry)) (now (result .entry)) ⌝ }
-{
-    fill(work);
-    if r.answer != 0 {
-        fill(result);
-        return r;
-    }
-    put_first(d, result);
     r
 }
 

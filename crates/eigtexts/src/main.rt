@@ -7,10 +7,14 @@ fn answer(t: &[u8]) {
     io::write_all(STDOUT_FILENO, &output[..length]);
 }
 
-fn file(name: &[u8]) {
+fn title(name: &[u8]) {
     io::write_all(STDOUT_FILENO, b"-- ");
     io::write_all(STDOUT_FILENO, name);
     io::write_all(STDOUT_FILENO, b"\n");
+}
+
+fn file(name: &[u8]) {
+    title(name);
     let fd = os::open_read(name);
     if fd < 0 {
         os::fail(name);
@@ -34,12 +38,17 @@ fn done() {
     file(b"n_32");
 }
 
-fn refused() {
+// Before the run.
+fn refused_early() {
     file(b"refused_2_limit_0");
     file(b"refused_2_limit_61");
     file(b"refused_2_limit_999");
     file(b"refused_7_nan");
     file(b"refused_7_infinity");
+}
+
+// Of the run.
+fn refused_late() {
     file(b"refused_8_mark_0");
     file(b"refused_8_mark_1");
     file(b"refused_8_mark_2");
@@ -49,22 +58,31 @@ fn refused() {
     file(b"refused_9");
 }
 
-fn bad() {
+fn bad_head() {
     file(b"bad_empty");
     file(b"bad_leading_zero");
     file(b"bad_limit_leading_zero");
     file(b"bad_limit_1000");
     file(b"bad_no_limit");
+}
+
+fn bad_words() {
     file(b"bad_two_spaces");
     file(b"bad_n_33");
     file(b"bad_upper_case");
     file(b"bad_digit");
     file(b"bad_short_word");
+}
+
+fn bad_lines() {
     file(b"bad_space_for_line_feed");
     file(b"bad_line_feed_for_space");
     file(b"bad_carriage_return");
     file(b"bad_empty_line");
     file(b"bad_missing_line");
+}
+
+fn bad_end() {
     file(b"bad_missing_last_line_feed");
     file(b"bad_line_behind");
     file(b"bad_byte_behind");
@@ -73,6 +91,10 @@ fn bad() {
 
 fn main() {
     done();
-    refused();
-    bad();
+    refused_early();
+    refused_late();
+    bad_head();
+    bad_words();
+    bad_lines();
+    bad_end();
 }

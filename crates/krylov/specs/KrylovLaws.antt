@@ -13,8 +13,9 @@ use Rattle.leaves.specs.Leaf.{isFinite}
 use Rattle.answers.specs.Answers.{done}
 use Rattle.gram.specs.Gram.{dot, norm}
 use Rattle.matvec.specs.Matvec.{product}
-use Rattle.krylov.specs.declared.Went.{Went}
-use Rattle.krylov.specs.Krylov.{State, tiny, went, ended, kept, step, turn, steps}
+use Rattle.stepend.specs.declared.Went.{Went}
+use Rattle.stepend.specs.End.{tiny, went, ended}
+use Rattle.krylov.specs.Krylov.{State, kept, step, turn, steps}
 
 -- ---- a list of so many finite numbers
 

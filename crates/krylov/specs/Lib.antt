@@ -1,4 +1,3 @@
--- The Lanczos steps. Against, KrylovLaws: laws.
+-- The Lanczos steps. KrylovLaws: laws.
 pub mod Krylov
-pub mod Against
 pub mod KrylovLaws

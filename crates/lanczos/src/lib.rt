@@ -18,9 +18,9 @@ use grid::fill;
 use lanczosrun::run;
 use lanczosrun::size;
 use leaves::Bad;
-use leaves::behind;
-use leaves::first_bad;
 use leaves::is_bad;
+use scan::behind;
+use scan::first_bad;
 
 fn work_length(n: usize, k: usize) -> usize
     requires { ⌜ (n ≤ 256) × (k ≤ 256) ⌝ }

@@ -15,7 +15,7 @@ use Rattle.answers.specs.declared.Answer.{Answer}
 use Rattle.exact.specs.Limit.{eigen-limit}
 use Rattle.gram.specs.Gram.{norm}
 use Rattle.krylov.specs.Krylov.{State}
-use Rattle.ritz.specs.Ritz.{selected}
+use Rattle.leading.specs.Leading.{selected}
 use Rattle.tridiagonal.specs.Tridiagonal.{tri, inward}
 use Rattle.lanczosrun.specs.Run.{none, paired, solved, ran}
 use Rattle.lanczos.specs.Lanczos.{checks, entered, lanczos}

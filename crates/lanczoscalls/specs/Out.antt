@@ -20,7 +20,7 @@ use Rattle.answers.specs.Answers.{answered, passed, refusal7, marked, least}
 use Rattle.answers.specs.declared.Answer.{Answer}
 use Rattle.gram.specs.Gram.{norm}
 use Rattle.krylov.specs.Krylov.{State}
-use Rattle.ritz.specs.Ritz.{looked, selected}
+use Rattle.leading.specs.Leading.{looked, selected}
 use Rattle.lanczosrun.specs.Run.{none, paired, solved, ran}
 use Rattle.lanczos.specs.Lanczos.{checks, entered, lanczos}
 use Rattle.lanczoscalls.specs.Early.{Outcome, Promised}

@@ -15,7 +15,7 @@ use Rattle.eigen.specs.Eigen.{cleared}
 use Rattle.eigen.specs.Lent.{zeros-take, zeros-drop}
 use Rattle.matvec.specs.Matvec.{replaced}
 use Rattle.krylov.specs.KrylovLaws.{Both}
-use Rattle.ritz.specs.Ritz.{selected}
+use Rattle.leading.specs.Leading.{selected}
 use Rattle.tridiagonal.specs.Tridiagonal.{tri, inward}
 use Rattle.tridiagonal.specs.Mirror.{innerOf, out, Fine, inward-is}
 use Rattle.lanczosrun.specs.Fits.{Called, Small}

@@ -9,7 +9,7 @@ use lib.ListN.{length, take, drop}
 use Rattle.grid.specs.Real.{Vec, zeros}
 use Rattle.grid.specs.Table.{part}
 use Rattle.answers.specs.declared.Answer.{Answer}
-use Rattle.krylov.specs.declared.Went.{Went}
+use Rattle.stepend.specs.declared.Went.{Went}
 use Rattle.krylov.specs.Krylov.{State, steps}
 use Rattle.krylov.specs.KrylovLaws.{Both, both-zeros, steps-fine, steps-few, steps-some}
 use Rattle.tridiagonal.specs.Tridiagonal.{inward}

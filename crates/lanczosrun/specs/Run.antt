@@ -8,8 +8,9 @@ use Rattle.leaves.specs.Scan.{classOf}
 use Rattle.answers.specs.Answers.{answered, passed, least}
 use Rattle.answers.specs.declared.Answer.{Answer}
 use Rattle.gram.specs.Gram.{norm}
-use Rattle.krylov.specs.Krylov.{State, started, steps}
-use Rattle.ritz.specs.Ritz.{selected}
+use Rattle.startvec.specs.Start.{started}
+use Rattle.krylov.specs.Krylov.{State, steps}
+use Rattle.leading.specs.Leading.{selected}
 use Rattle.tridiagonal.specs.Tridiagonal.{inward}
 
 -- s, how many steps at the most

@@ -7,9 +7,10 @@ ghost use Prim.Native.Nat.{_+_, _*_, _<_, _≤_};
 ghost use lib.ListN.{length, take};
 ghost use Rattle.grid.specs.Real.{zeros};
 ghost use Rattle.grid.specs.Table.{part};
-ghost use Rattle.krylov.specs.Krylov.{started, steps};
+ghost use Rattle.startvec.specs.Start.{started};
+ghost use Rattle.krylov.specs.Krylov.{steps};
 ghost use Rattle.krylov.specs.KrylovLaws.{Both};
-ghost use Rattle.ritz.specs.Ritz.{selected};
+ghost use Rattle.leading.specs.Leading.{selected};
 ghost use Rattle.tridiagonal.specs.Tridiagonal.{inward};
 ghost use Rattle.lanczosrun.specs.Fits.{Called, Fit, Room, Small};
 ghost use Rattle.lanczosrun.specs.Run.{size, paired, solved, ran};
@@ -18,11 +19,11 @@ use answers::answered;
 use answers::least;
 use gram::norm;
 use grid::LARGEST;
-use krylov::first;
 use krylov::steps;
+use leading::select;
 use leaves::class_of;
 use leaves::is_finite;
-use ritz::select;
+use startvec::first;
 use tridiagonal::small;
 
 // ---- the small problem and the pairs

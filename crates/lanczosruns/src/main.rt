@@ -1,30 +1,11 @@
 // Replays the oracle's cases of `lanczos` from standard input (oracle/README.md has their form) and writes how many agree: the four numbers,
 // and every number of the arrays afterwards.
+use answers::Answer;
 use cases::Asked;
-use cases::Inputs;
-use cases::Lengths;
+use cases::Case;
 use cases::Wanted;
 
-fn agrees(
-    c: Asked,
-    wanted: Wanted,
-    a: &[f64],
-    b: &[f64],
-    work: &mut [f64],
-    result: &mut [f64],
-) -> bool {
-    let got = lanczos::lanczos(
-        c.first as usize,
-        c.second as usize,
-        c.third as usize,
-        c.fourth as usize,
-        a,
-        b,
-        work,
-        result,
-    );
-    let wrong = cases::wrong(result, wanted.shown);
-    let h = cases::hashed2(work, result);
+fn numbers_agree(got: Answer, wanted: Wanted) -> bool {
     if got.answer as u64 != wanted.answer {
         return false;
     }
@@ -34,71 +15,54 @@ fn agrees(
     if got.index as u64 != wanted.index {
         return false;
     }
-    if got.count as u64 != wanted.count {
-        return false;
+    got.count as u64 == wanted.count
+}
+
+fn call(c: Asked, a: &[f64], b: &[f64], work: &mut [f64], result: &mut [f64]) -> Answer {
+    lanczos::lanczos(
+        c.first as usize,
+        c.second as usize,
+        c.third as usize,
+        c.fourth as usize,
+        a,
+        b,
+        work,
+        result,
+    )
+}
+
+fn agrees(c: Case, a: &[f64], b: &[f64], work: &mut [f64], result: &mut [f64]) -> bool {
+    let got = call(c.asked, a, b, work, result);
+    let good = cases::arrays_agree(c.wanted, work, result);
+    if numbers_agree(got, c.wanted) {
+        return good;
     }
-    if h != wanted.hash {
-        return false;
-    }
-    wrong == 0
+    false
 }
 
 // Prepares the arrays, which have the case's lengths, makes the call and compares.
-fn case(
-    c: Asked,
-    inputs: Inputs,
-    wanted: Wanted,
-    a: &mut [f64],
-    b: &mut [f64],
-    work: &mut [f64],
-    result: &mut [f64],
-) -> bool {
-    let scale = cases::number(inputs.scale);
-    let x = cases::give(a, inputs.kind, inputs.seed, scale);
-    cases::give(b, inputs.kind, x, scale);
-    cases::leave(work, inputs.old);
-    cases::leave(
-        result,
-        std::num::wrapping_add_u64(inputs.old, work.len() as u64),
-    );
-    agrees(c, wanted, a, b, work, result)
+fn case(c: Case, a: &mut [f64], b: &mut [f64], work: &mut [f64], result: &mut [f64]) -> bool {
+    cases::give_both(c.inputs, a, b);
+    cases::leave_both(c.inputs, work, result);
+    agrees(c, a, b, work, result)
 }
 
 // The case on parts of the arrays that have its lengths; false where they have no room for it.
-fn fitted(
-    c: Asked,
-    lengths: Lengths,
-    inputs: Inputs,
-    wanted: Wanted,
-    a: &mut [f64],
-    b: &mut [f64],
-    work: &mut [f64],
-    result: &mut [f64],
-) -> bool {
-    let i = lengths.a as usize;
-    if a.len() < i {
+fn fitted(c: Case, a: &mut [f64], b: &mut [f64], work: &mut [f64], result: &mut [f64]) -> bool {
+    let l = c.lengths;
+    if !cases::room(l, a.len(), b.len(), work.len(), result.len()) {
         return false;
     }
-    let j = lengths.b as usize;
-    if b.len() < j {
-        return false;
-    }
-    let k = lengths.work as usize;
-    if work.len() < k {
-        return false;
-    }
-    let l = lengths.result as usize;
-    if result.len() < l {
-        return false;
-    }
+    let i = l.a as usize;
+    let j = l.b as usize;
+    let k = l.work as usize;
+    let n = l.result as usize;
     case(
         c,
-        inputs,
-        wanted,
         &mut a[..i],
         &mut b[..j],
         &mut work[..k],
-        &mut result[..l],
+        &mut result[..n],
     )
 }
 
@@ -109,32 +73,29 @@ struct Seen {
     more: bool,
 }
 
-// One case of the list, if there is one.
-fn turn(s: Seen, a: &mut [f64], b: &mut [f64], work: &mut [f64], result: &mut [f64]) -> Seen {
-    let c = cases::read_asked();
-    let lengths = cases::read_lengths();
-    let inputs = cases::read_inputs();
-    let wanted = cases::read_wanted();
-    if c.function != 8 {
-        return Seen {
-            all: s.all,
-            agreeing: s.agreeing,
-            more: false,
-        };
-    }
-    let all = std::num::wrapping_add_u64(s.all, 1);
-    if fitted(c, lengths, inputs, wanted, a, b, work, result) {
-        return Seen {
-            all,
-            agreeing: std::num::wrapping_add_u64(s.agreeing, 1),
-            more: true,
-        };
-    }
+fn ended(s: Seen) -> Seen {
     Seen {
-        all,
+        all: s.all,
         agreeing: s.agreeing,
+        more: false,
+    }
+}
+
+fn counted(s: Seen, good: bool) -> Seen {
+    Seen {
+        all: std::num::wrapping_add_u64(s.all, 1),
+        agreeing: std::num::wrapping_add_u64(s.agreeing, good as u64),
         more: true,
     }
+}
+
+// One case of the list, if there is one.
+fn turn(s: Seen, a: &mut [f64], b: &mut [f64], work: &mut [f64], result: &mut [f64]) -> Seen {
+    let c = cases::read_case();
+    if c.asked.function != 8 {
+        return ended(s);
+    }
+    counted(s, fitted(c, a, b, work, result))
 }
 
 // The list ends, but nothing says so: the loop counts its turns down, from a number that no list uses up.

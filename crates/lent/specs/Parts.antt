@@ -15,7 +15,8 @@ use Rattle.answers.specs.declared.Answer.{Answer}
 use Rattle.pass.specs.declared.Run.{Run}
 use Rattle.turns.specs.Turns.{State}
 use Rattle.ql.specs.Ql as Ql
-use Rattle.eigen.specs.Lent.{outward, laid, behind, behind-put, put-together, zeros-drop}
+use Rattle.handed.specs.Laid.{laid}
+use Rattle.eigen.specs.Lent.{outward, behind, behind-put, put-together, zeros-drop}
 use Rattle.machine.specs.Machine.{step}
 use Rattle.lent.specs.Lent.{readied, setting, stateOf, laidOut, closedUp}
 

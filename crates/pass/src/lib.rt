@@ -7,10 +7,10 @@ ghost use Rattle.pass.specs.Pass.{mark1, settled, judged, verdict, pass}
 use grid::EPSILON;
 use grid::at1;
 use leaves::Bad;
-use leaves::behind;
-use leaves::first_bad;
 use leaves::is_bad;
 use leaves::magnitude;
+use scan::behind;
+use scan::first_bad;
 use transform::transform;
 
 // A run of `tql2` at l. stop is 0 while passes are to be run at l, 1 where l has settled, 8 or 10 where a number is not

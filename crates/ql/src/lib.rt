@@ -12,11 +12,11 @@ use answers::marked;
 use grid::at1;
 use grid::put1;
 use leaves::Bad;
-use leaves::behind;
-use leaves::first_bad;
-use leaves::first_bad_cell;
 use leaves::is_bad;
 use pass::Run;
+use scan::behind;
+use scan::first_bad;
+use scan::first_bad_cell;
 use sort::sort;
 use turns::run;
 

@@ -16,7 +16,7 @@ use gram::passes;
 use grid::LARGEST;
 use grid::copy;
 use leaves::Bad;
-use leaves::first_bad;
+use scan::first_bad;
 use unit::finish;
 
 fn column(m: usize, k: usize, j: usize, b: &mut [f64], c: &mut [f64], q: &mut [f64]) -> Answer

@@ -3,11 +3,12 @@ ghost use mathlib.Core.Path.{_≡_};
 ghost use Prim.Native.Nat.{_*_, _<_, _≤_};
 ghost use lib.ListN.{length};
 ghost use Rattle.grid.specs.CellLaws.{Sized};
-ghost use Rattle.tred.specs.Tred.{skipRow, similarColumn, similarity, overH, lessen, updateColumn, updates, reflect, skip, reduce, householder, reduction};
+ghost use Rattle.tred.specs.Tred.{skipRow, overH, lessen, updateColumn, updates, reflect, skip, reduce, householder, reduction};
 use grid::at;
 use grid::at1;
 use grid::put;
 use grid::put1;
+use similar::similarity;
 use tred::generate;
 use tred::scale_of;
 
@@ -19,41 +20,6 @@ fn skip_row(n: usize, i: usize, v: &mut [f64], d: &mut [f64])
         put1(d, j, at(v, n, n, i - 1, j));
         put(v, n, n, i, j, 0.0);
         put(v, n, n, j, i, 0.0);
-    }
-}
-
-fn similar_column(
-    n: usize,
-    i: usize,
-    j: usize,
-    f: f64,
-    g0: f64,
-    v: &[f64],
-    d: &[f64],
-    e: &mut [f64],
-) -> f64
-    requires { ⌜ (j < i) × (i < n) × Sized n (now v) (now d) (now e) ⌝ }
-    ensures { λ g. ⌜ (g, now (e .exit)) ≡ similarColumn n i j f (now (v .entry)) (now (d .entry)) (g0, now (e .entry)) ⌝ }
-{
-    let mut g = g0;
-    for k in j + 1..i {
-        let x = at(v, n, n, k, j);
-        g = g + x * at1(d, k);
-        put1(e, k, at1(e, k) + x * f);
-    }
-    g
-}
-
-fn similarity(n: usize, i: usize, v: &mut [f64], d: &[f64], e: &mut [f64])
-    requires { ⌜ (i < n) × Sized n (now v) (now d) (now e) ⌝ }
-    ensures { λ _. ⌜ (now (v .exit), now (e .exit)) ≡ similarity n i (now (d .entry)) (now (v .entry), now (e .entry)) ⌝ }
-{
-    for j in 0..i {
-        let f = at1(d, j);
-        put(v, n, n, j, i, f);
-        let g0 = at1(e, j) + at(v, n, n, j, j) * f;
-        let g = similar_column(n, i, j, f, g0, v, d, e);
-        put1(e, j, g);
     }
 }
 

@@ -1,9 +1,7 @@
 // Replays the oracle's cases from standard input and writes, by function, how many agree: the four numbers, and every number of
 // the arrays afterwards. Each case of symmetric_eigen is run in steps too.
-use cases::Asked;
-use cases::Inputs;
-use cases::Lengths;
-use cases::Wanted;
+ghost use Prim.Native.Nat.{_<_};
+use cases::Case;
 
 // ---- a case of symmetric_eigen in steps
 
@@ -41,111 +39,111 @@ fn in_steps(
 }
 
 // The case once more, on the matrix as it was given and with the same old contents.
-fn agrees_in_steps(
-    c: Asked,
-    inputs: Inputs,
-    wanted: Wanted,
-    a: &[f64],
-    work: &mut [f64],
-    result: &mut [f64],
-) -> bool {
-    cases::leave(work, inputs.old);
-    cases::leave(
-        result,
-        std::num::wrapping_add_u64(inputs.old, work.len() as u64),
-    );
+fn agrees_in_steps(c: Case, a: &[f64], work: &mut [f64], result: &mut [f64]) -> bool {
+    cases::leave_both(c.inputs, work, result);
     let got = in_steps(
-        c.first as usize,
-        c.second as usize,
-        c.third as usize,
+        c.asked.first as usize,
+        c.asked.second as usize,
+        c.asked.third as usize,
         a,
         work,
         result,
     );
-    let h = cases::hashed2(work, result);
-    if !caseruns::numbers_agree(got, wanted) {
+    if !caseruns::numbers_agree(got, c.wanted) {
         return false;
     }
-    h == wanted.hash
+    cases::hashed2(work, result) == c.wanted.hash
 }
 
-fn fitted_in_steps(
-    c: Asked,
-    lengths: Lengths,
-    inputs: Inputs,
-    wanted: Wanted,
-    a: &[f64],
-    work: &mut [f64],
-    result: &mut [f64],
-) -> bool {
-    let i = lengths.a as usize;
-    if a.len() < i {
+fn fitted_in_steps(c: Case, a: &[f64], work: &mut [f64], result: &mut [f64]) -> bool {
+    let l = c.lengths;
+    if !cases::room(l, a.len(), l.b as usize, work.len(), result.len()) {
         return false;
     }
-    let k = lengths.work as usize;
-    if work.len() < k {
-        return false;
-    }
-    let l = lengths.result as usize;
-    if result.len() < l {
-        return false;
-    }
-    agrees_in_steps(c, inputs, wanted, &a[..i], &mut work[..k], &mut result[..l])
+    let i = l.a as usize;
+    let k = l.work as usize;
+    let n = l.result as usize;
+    agrees_in_steps(c, &a[..i], &mut work[..k], &mut result[..n])
 }
 
 // ---- all of them
 
-fn add(tally: &mut [u64], i: usize) {
-    if i < tally.len() {
-        tally[i] = std::num::wrapping_add_u64(tally[i], 1);
-    }
+// What came of a case: the function that it calls, 0 behind the last case, whether it agrees, and whether it does so in steps.
+struct Outcome {
+    function: u64,
+    good: bool,
+    again: bool,
 }
 
-fn note(tally: &mut [u64], agreeing: &mut [u64], function: u64, good: bool) {
-    add(tally, function as usize);
-    if good {
-        add(agreeing, function as usize);
-    }
-}
-
-// One case of the list, and whether there was one.
-fn turn(
-    a: &mut [f64],
-    b: &mut [f64],
-    work: &mut [f64],
-    result: &mut [f64],
-    tally: &mut [u64],
-    agreeing: &mut [u64],
-) -> bool {
-    let c = cases::read_asked();
-    let lengths = cases::read_lengths();
-    let inputs = cases::read_inputs();
-    let wanted = cases::read_wanted();
-    if c.function == 0 {
+fn again(c: Case, a: &[f64], work: &mut [f64], result: &mut [f64]) -> bool {
+    if c.asked.function != 1 {
         return false;
     }
-    let good = caseruns::fitted(c, lengths, inputs, wanted, a, b, work, result);
-    note(tally, agreeing, c.function, good);
-    if c.function == 1 {
-        let again = fitted_in_steps(c, lengths, inputs, wanted, a, work, result);
-        note(tally, agreeing, 7, again);
+    fitted_in_steps(c, a, work, result)
+}
+
+// One case of the list, if there is one.
+fn turn(a: &mut [f64], b: &mut [f64], work: &mut [f64], result: &mut [f64]) -> Outcome {
+    let c = cases::read_case();
+    let function = c.asked.function;
+    if function == 0 {
+        return Outcome {
+            function,
+            good: false,
+            again: false,
+        };
     }
-    true
+    let good = caseruns::fitted(c, a, b, work, result);
+    let again = again(c, a, work, result);
+    Outcome {
+        function,
+        good,
+        again,
+    }
+}
+
+// Of the functions 1 to 7, 7 being symmetric_eigen in steps: counts[f] is how many cases there were of f, counts[8 + f] how many agreed.
+fn add(counts: &mut [u64], i: usize, one: bool) {
+    if i < counts.len() {
+        counts[i] = std::num::wrapping_add_u64(counts[i], one as u64);
+    }
+}
+
+fn note(counts: &mut [u64], function: u64, good: bool) {
+    if function < 8 {
+        let f = function as usize;
+        add(counts, f, true);
+        add(counts, 8 + f, good);
+    }
+}
+
+fn count(counts: &mut [u64], o: Outcome) {
+    note(counts, o.function, o.good);
+    if o.function == 1 {
+        note(counts, 7, o.again);
+    }
 }
 
 // The list ends, but nothing says so: the loop counts its turns down, from a number that no list uses up.
-fn replay(
-    a: &mut [f64],
-    b: &mut [f64],
-    work: &mut [f64],
-    result: &mut [f64],
-    tally: &mut [u64],
-    agreeing: &mut [u64],
-) {
+fn replay(a: &mut [f64], b: &mut [f64], work: &mut [f64], result: &mut [f64], counts: &mut [u64]) {
     let mut turns = u64::MAX;
-    while turns > 0 && turn(a, b, work, result, tally, agreeing) {
+    while turns > 0 {
+        let o = turn(a, b, work, result);
+        if o.function == 0 {
+            return;
+        }
+        count(counts, o);
         turns -= 1;
     }
+}
+
+fn replay_all(counts: &mut [u64]) {
+    // r + m·r + r·n at the largest sizes, and room for lengths that are wrong by a little.
+    let mut a = [0.0f64; 131400];
+    let mut b = [0.0f64; 300];
+    let mut work = [0.0f64; 131400];
+    let mut result = [0.0f64; 131400];
+    replay(&mut a, &mut b, &mut work, &mut result, counts);
 }
 
 fn line(name: &[u8], agreeing: u64, all: u64) {
@@ -157,27 +155,24 @@ fn line(name: &[u8], agreeing: u64, all: u64) {
     io::write_all(1, b"\n");
 }
 
+fn line_of(f: usize, name: &[u8], counts: &[u64; 16])
+    requires { ⌜ f < 8 ⌝ }
+{
+    line(name, counts[8 + f], counts[f]);
+}
+
+fn lines(counts: &[u64; 16]) {
+    line_of(1, b"symmetric_eigen", counts);
+    line_of(2, b"svd", counts);
+    line_of(3, b"solve", counts);
+    line_of(4, b"pseudo_inverse", counts);
+    line_of(5, b"qr_q", counts);
+    line_of(6, b"row of V^T", counts);
+    line_of(7, b"symmetric_eigen in steps", counts);
+}
+
 fn main() {
-    // r + m·r + r·n at the largest sizes, and room for lengths that are wrong by a little.
-    let mut a = [0.0f64; 131400];
-    let mut b = [0.0f64; 300];
-    let mut work = [0.0f64; 131400];
-    let mut result = [0.0f64; 131400];
-    let mut tally = [0u64; 8];
-    let mut agreeing = [0u64; 8];
-    replay(
-        &mut a,
-        &mut b,
-        &mut work,
-        &mut result,
-        &mut tally,
-        &mut agreeing,
-    );
-    line(b"symmetric_eigen", agreeing[1], tally[1]);
-    line(b"svd", agreeing[2], tally[2]);
-    line(b"solve", agreeing[3], tally[3]);
-    line(b"pseudo_inverse", agreeing[4], tally[4]);
-    line(b"qr_q", agreeing[5], tally[5]);
-    line(b"row of V^T", agreeing[6], tally[6]);
-    line(b"symmetric_eigen in steps", agreeing[7], tally[7]);
+    let mut counts = [0u64; 16];
+    replay_all(&mut counts);
+    lines(&counts);
 }

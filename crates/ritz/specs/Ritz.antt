@@ -1,18 +1,14 @@
--- The leading Ritz pairs of document 000, from m vectors in q (n numbers each) and the values and vectors of the small problem. Definitions only.
+-- The Ritz pairs of document 000, from m vectors in q (n numbers each) and the values and vectors of the small problem. Definitions only.
 use mathlib.Core.Bool.{cond}
 use mathlib.Core.List.{List}
 use Prim.Native.Nat.{ℕ, _+_, _*_}
 use lib.Ieee.{lt}
-use lib.ListN.{length, set, getD}
+use lib.ListN.{set, getD}
 use Rattle.grid.specs.Loop.{upto}
 use Rattle.grid.specs.Real.{Vec, epsilon, zeros, at}
 use Rattle.grid.specs.Cell.{entry}
-use Rattle.leaves.specs.Scan.{isBad, firstBad}
-use Rattle.answers.specs.Answers.{answered, marked, least}
-use Rattle.answers.specs.declared.Answer.{Answer}
 use Rattle.gram.specs.Gram.{norm}
 use Rattle.unit.specs.Unit.{over}
-use Rattle.order.specs.Order.{order}
 use Rattle.matvec.specs.Matvec.{rowOf, replaced, added}
 
 -- the vector of the small problem's place c: summed over j ascending
@@ -36,12 +32,3 @@ pairStep n k m q vals vecs o t x = pair n k m q vals vecs (getD o t 0) t x
 
 unfoldable pub pairs : ℕ → ℕ → ℕ → ℕ → Vec → Vec → Vec → List ℕ → Vec → Vec
 pairs n k m found q vals vecs o x = upto (pairStep n k m q vals vecs o) 0 found x
-
--- the whole answer is looked at: 8 or 10 with place 6 and the index there, or the number of pairs found
-unfoldable pub looked : ℕ → ℕ → Vec → Answer × Vec
-looked found count x = cond (isBad (firstBad x)) (marked 6 count (firstBad x), zeros (length x)) (answered 0 found 0 count, x)
-
--- the pairs with the greatest values, in descending order, equal ones in their old order
-unfoldable pub selected : ℕ → ℕ → ℕ → ℕ → Vec → Vec → Vec → Vec → Answer × Vec
-selected n k m count q vals vecs x =
-    looked (least k m) count (pairs n k m (least k m) q vals vecs (order (λ (i : ℕ). at vals (0 + i)) m) x)

@@ -1,13 +1,9 @@
-// The leading Ritz pairs of document 000's Lanczos: k values, then k rows of n numbers.
+// The Ritz pairs of document 000's Lanczos: k values, then k rows of n numbers.
 ghost use mathlib.Core.Path.{_≡_};
 ghost use Prim.Native.Nat.{_+_, _*_, _<_, _≤_};
 ghost use lib.ListN.{length};
 ghost use Rattle.order.specs.Rank.{Below};
-ghost use Rattle.ritz.specs.Ritz.{ritz, levelled, pair, pairs, looked, selected};
-use answers::Answer;
-use answers::answered;
-use answers::least;
-use answers::marked;
+ghost use Rattle.ritz.specs.Ritz.{ritz, levelled, pair, pairs};
 use gram::norm;
 use grid::EPSILON;
 use grid::LARGEST;
@@ -16,10 +12,7 @@ use grid::copy;
 use grid::entry;
 use grid::fill;
 use grid::put1;
-use leaves::first_bad;
-use leaves::is_bad;
 use matvec::add;
-use order::note;
 use unit::over;
 
 fn ritz(n: usize, s: usize, m: usize, q: &[f64], vecs: &[f64], c: usize, x: &mut [f64])
@@ -71,7 +64,7 @@ fn pair(
     copy(y, &mut x[f..e]);
 }
 
-fn pairs(
+pub fn pairs(
     n: usize,
     s: usize,
     k: usize,
@@ -91,39 +84,4 @@ fn pairs(
         let c = o[t];
         pair(n, s, k, m, q, vals, vecs, c, t, y, x);
     }
-}
-
-// The whole answer is looked at.
-fn look(found: usize, count: usize, x: &mut [f64]) -> Answer
-    ensures { λ r. ⌜ (r, now (x .exit)) ≡ looked found count (now (x .entry)) ⌝ }
-{
-    let b = first_bad(x);
-    if is_bad(b) {
-        fill(x);
-        return marked(6, count, b);
-    }
-    answered(0, found, 0, count)
-}
-
-// The pairs with the greatest values, in descending order.
-pub fn select(
-    n: usize,
-    s: usize,
-    k: usize,
-    m: usize,
-    count: usize,
-    q: &[f64],
-    vals: &[f64],
-    vecs: &[f64],
-    x: &mut [f64],
-) -> Answer
-    requires { ⌜ (n ≤ 256) × (m ≤ s) × (m ≤ 256) × (length (now q) ≡ s * n) × (length (now vals) ≡ m) × (length (now vecs) ≡ m * m) × (length (now x) ≡ k + k * n) ⌝ }
-    ensures { λ r. ⌜ (r, now (x .exit)) ≡ selected n k m count (now (q .entry)) (now (vals .entry)) (now (vecs .entry)) (now (x .entry)) ⌝ }
-{
-    let mut o = [0usize; LARGEST];
-    let mut y = [0.0f64; LARGEST];
-    note(vals, 0, m, &mut o);
-    let found = least(k, m);
-    pairs(n, s, k, m, found, q, vals, vecs, &o, &mut y[..n], x);
-    look(found, count, x)
 }

@@ -11,9 +11,9 @@ use answers::limit_good;
 use answers::refused;
 use grid::LARGEST;
 use grid::at1;
-use leaves::first_bad;
 use leaves::is_bad;
 use pass::Run;
+use scan::first_bad;
 
 // len is n + n * n, for any n.
 fn result_fits(n: usize, len: usize) -> bool

@@ -21,9 +21,9 @@ use answers::refused;
 use grid::LARGEST;
 use inverse::inverted;
 use leaves::Bad;
-use leaves::behind;
-use leaves::first_bad;
 use leaves::is_bad;
+use scan::behind;
+use scan::first_bad;
 use solution::solution;
 
 // Refusals 1, 3 and 4.

@@ -15,13 +15,13 @@ use answers::refusal7;
 use answers::refused;
 use grid::LARGEST;
 use grid::fill;
-use leaves::first_bad_lower;
 use leaves::is_bad;
 use lent::begin_run;
 use lent::close_up;
 use lent::move_on;
 use pass::Run;
 use runchecks::checked;
+use scan::first_bad_lower;
 use turns::stopping;
 
 // A run of `symmetric_eigen`. It goes on while run.stop is 0 and has ended otherwise; answer is what the last call gave. Between

@@ -21,7 +21,7 @@ use grid::entry;
 use grid::fill;
 use grid::put1;
 use jacobi::jacobi;
-use leaves::first_bad;
+use scan::first_bad;
 use sorted::longest;
 use sorted::sorted_out;
 

@@ -45,15 +45,40 @@ sideStep n a v j i w = set w i (at w i ⊕ entry a n j i ⊗ at v j)
 abbrev pub fourStep : ℕ → Vec → Vec → ℕ → ℕ → ℕ → ℕ → ℕ → Vec → Vec
 fourStep n a v j j1 j2 j3 i w = set w i (at w i ⊕ entry a n j i ⊗ at v j ⊕ entry a n j1 i ⊗ at v j1 ⊕ entry a n j2 i ⊗ at v j2 ⊕ entry a n j3 i ⊗ at v j3)
 
+-- eight rows: four, and four more
+abbrev fourTerms : ℕ → Vec → Vec → ℕ → ℕ → ℕ → ℕ → ℕ → Float → Float
+fourTerms n a v j j1 j2 j3 i x = x ⊕ entry a n j i ⊗ at v j ⊕ entry a n j1 i ⊗ at v j1 ⊕ entry a n j2 i ⊗ at v j2 ⊕ entry a n j3 i ⊗ at v j3
+
+abbrev pub eightStep : ℕ → Vec → Vec → ℕ → ℕ → ℕ → ℕ → ℕ → ℕ → ℕ → ℕ → ℕ → Vec → Vec
+eightStep n a v j j1 j2 j3 j4 j5 j6 j7 i w = set w i (fourTerms n a v j4 j5 j6 j7 i (fourTerms n a v j j1 j2 j3 i (at w i)))
+
 unfoldable pub sides : ℕ → Vec → Vec → ℕ → Vec → Vec
 sides n a v j w = upto (sideStep n a v j) 0 n w
 
 unfoldable pub fourSides : ℕ → Vec → Vec → ℕ → ℕ → ℕ → ℕ → Vec → Vec
 fourSides n a v j j1 j2 j3 w = upto (fourStep n a v j j1 j2 j3) 0 n w
 
--- how far they are summed, and the sums: four more where there are so many, else one
+unfoldable pub eightSides : ℕ → Vec → Vec → ℕ → ℕ → ℕ → ℕ → ℕ → ℕ → ℕ → ℕ → Vec → Vec
+eightSides n a v j j1 j2 j3 j4 j5 j6 j7 w = upto (eightStep n a v j j1 j2 j3 j4 j5 j6 j7) 0 n w
+
+-- eight rows are four and then four
+eight-fours : (n : ℕ) (a v : Vec) (j j1 j2 j3 j4 j5 j6 j7 : ℕ) (d : Vec) → length d ≡ n
+    → eightSides n a v j j1 j2 j3 j4 j5 j6 j7 d ≡ fourSides n a v j4 j5 j6 j7 (fourSides n a v j j1 j2 j3 d)
+unfolding eightSides fourSides
+eight-fours n a v j j1 j2 j3 j4 j5 j6 j7 d g =
+    let first : Vec = table (λ i. fourTerms n a v j j1 j2 j3 i (at d i)) n in
+    each (λ i x. fourTerms n a v j4 j5 j6 j7 i (fourTerms n a v j j1 j2 j3 i x)) d n g
+    ∙ sym (
+    ap (λ (w : Vec). upto (fourStep n a v j4 j5 j6 j7) 0 n w) (each (fourTerms n a v j j1 j2 j3) d n g)
+    ∙ each (fourTerms n a v j4 j5 j6 j7) first n (length-table (λ i. fourTerms n a v j j1 j2 j3 i (at d i)) n)
+    ∙ table-same _ _ n (λ i p. ap (fourTerms n a v j4 j5 j6 j7 i) (at-table (λ i. fourTerms n a v j j1 j2 j3 i (at d i)) n i p)))
+
+-- how far they are summed, and the sums: eight more where there are so many, else four, else one
 unfoldable pub more : ℕ → Vec → Vec → ℕ → Vec → ℕ × Vec
-more n a v j w = cond (ltb (j + 3) n) (j + 4, fourSides n a v j (j + 1) (j + 2) (j + 3) w) (j + 1, sides n a v j w)
+more n a v j w =
+    cond (ltb (j + 7) n)
+    (j + 4 + 4, eightSides n a v j (j + 1) (j + 2) (j + 3) (j + 4) (j + 4 + 1) (j + 4 + 2) (j + 4 + 3) w)
+    (cond (ltb (j + 3) n) (j + 4, fourSides n a v j (j + 1) (j + 2) (j + 3) w) (j + 1, sides n a v j w))
 
 module _ (n : ℕ) (a v : Vec) (m : Mirror n a) where
   -- number i of the product after so many columns
@@ -115,6 +140,17 @@ module _ (n : ℕ) (a v : Vec) (m : Mirror n a) where
           ap (f i (j + 1 + 1 + 1)) (at-table (λ i. f i (j + 1 + 1) (at d2 i)) n i p
           ∙ ap (f i (j + 1 + 1)) (at-table (λ i. f i (j + 1) (at d1 i)) n i p ∙ ap (f i (j + 1)) (at-table (λ i. f i j (at d i)) n i p))))
 
+  turned-long : (k : ℕ) → length (turns f n k) ≡ n
+  unfolding turns
+  turned-long k = length-table _ n
+
+  eight-more : (j : ℕ) (d : Vec) {e : Vec} → j + 7 < n → length d ≡ n → d ≡ turns f n j
+      → e ≡ eightSides n a v j (j + 1) (j + 2) (j + 3) (j + 4) (j + 4 + 1) (j + 4 + 2) (j + 4 + 3) d → e ≡ turns f n (j + 4 + 4)
+  eight-more j d l g h s =
+      let d4 : Vec = fourSides n a v j (j + 1) (j + 2) (j + 3) d in
+      let h4 : d4 ≡ turns f n (j + 4) = four-more j d (omega arith) g h refl in
+      four-more (j + 4) d4 (omega arith) (ap length h4 ∙ turned-long (j + 4)) h4 (s ∙ eight-fours n a v j (j + 1) (j + 2) (j + 3) (j + 4) (j + 4 + 1) (j + 4 + 2) (j + 4 + 3) d g)
+
   pub record Further (j : ℕ) (x : ℕ × Vec) : Type 0 where
     pub up : j < x .0
     pub within : x .0 ≤ n
@@ -122,11 +158,17 @@ module _ (n : ℕ) (a v : Vec) (m : Mirror n a) where
 
   pub further : (j : ℕ) (d : Vec) {x : ℕ × Vec} → j < n → length d ≡ n → d ≡ turns f n j → x ≡ more n a v j d → Further j x
   unfolding more
-  further j d l g h s = subst (Further j) (sym s) (go (ltb (j + 3) n) refl)
+  further j d l g h s = subst (Further j) (sym s) (go (ltb (j + 7) n) refl)
     where
-      go : (b : Bool) → ltb (j + 3) n ≡ b → Further j (cond {A = ℕ × Vec} b (j + 4, fourSides n a v j (j + 1) (j + 2) (j + 3) d) (j + 1, sides n a v j d))
-      go true e = record { up = omega arith; within = omega (arith, ltb-true (j + 3) n e); so-far = four-more j d (ltb-true (j + 3) n e) g h refl }
-      go false e = record { up = omega arith; within = omega (arith, l); so-far = one-more j d l g h refl }
+      few : (b : Bool) → ltb (j + 3) n ≡ b → Further j (cond {A = ℕ × Vec} b (j + 4, fourSides n a v j (j + 1) (j + 2) (j + 3) d) (j + 1, sides n a v j d))
+      few true e = record { up = omega arith; within = omega (arith, ltb-true (j + 3) n e); so-far = four-more j d (ltb-true (j + 3) n e) g h refl }
+      few false e = record { up = omega arith; within = omega (arith, l); so-far = one-more j d l g h refl }
+
+      go : (b : Bool) → ltb (j + 7) n ≡ b
+          → Further j (cond {A = ℕ × Vec} b (j + 4 + 4, eightSides n a v j (j + 1) (j + 2) (j + 3) (j + 4) (j + 4 + 1) (j + 4 + 2) (j + 4 + 3) d)
+          (cond {A = ℕ × Vec} (ltb (j + 3) n) (j + 4, fourSides n a v j (j + 1) (j + 2) (j + 3) d) (j + 1, sides n a v j d)))
+      go true e = record { up = omega arith; within = omega (arith, ltb-true (j + 7) n e); so-far = eight-more j d (ltb-true (j + 7) n e) g h refl }
+      go false e = few (ltb (j + 3) n) refl
 
   pub begins : (w : Vec) → w ≡ zeros n → w ≡ turns f n 0
   begins w e = e ∙ turns-none f n

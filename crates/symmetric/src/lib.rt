@@ -5,7 +5,7 @@ ghost use mathlib.Core.Bool.{true};
 ghost use Prim.Native.Nat.{_+_, _*_, _<_, _≤_};
 ghost use lib.ListN.{length};
 ghost use Rattle.matvec.specs.Matvec.{product};
-ghost use Rattle.symmetric.specs.Sides.{Row, Mirror, sides, fourSides, more};
+ghost use Rattle.symmetric.specs.Sides.{Row, Mirror, sides, fourSides, eightSides, more};
 use grid::at1;
 use grid::entry;
 use grid::fill;
@@ -83,11 +83,54 @@ fn four(n: usize, j: usize, j1: usize, j2: usize, j3: usize, a: &[f64], v: &[f64
     }
 }
 
-// Four rows from j on where there are so many, else one; what comes back is how far they are summed.
+// Rows j to j7, one after the other.
+fn eight(
+    n: usize,
+    j: usize,
+    j1: usize,
+    j2: usize,
+    j3: usize,
+    j4: usize,
+    j5: usize,
+    j6: usize,
+    j7: usize,
+    a: &[f64],
+    v: &[f64],
+    w: &mut [f64],
+)
+    requires { ⌜ (j < n) × (j1 < n) × (j2 < n) × (j3 < n) × (j4 < n) × (j5 < n) × (j6 < n) × (j7 < n) × (length (now a) ≡ n * n) × (length (now v) ≡ n) × (length (now w) ≡ n) ⌝ }
+    ensures { λ _. ⌜ now (w .exit) ≡ eightSides n (now (a .entry)) (now (v .entry)) j j1 j2 j3 j4 j5 j6 j7 (now (w .entry)) ⌝ }
+{
+    let x = at1(v, j);
+    let x1 = at1(v, j1);
+    let x2 = at1(v, j2);
+    let x3 = at1(v, j3);
+    let x4 = at1(v, j4);
+    let x5 = at1(v, j5);
+    let x6 = at1(v, j6);
+    let x7 = at1(v, j7);
+    for i in 0..n {
+        let y = at1(w, i) + entry(a, n, n, j, i) * x;
+        let y1 = y + entry(a, n, n, j1, i) * x1;
+        let y2 = y1 + entry(a, n, n, j2, i) * x2;
+        let y3 = y2 + entry(a, n, n, j3, i) * x3;
+        let y4 = y3 + entry(a, n, n, j4, i) * x4;
+        let y5 = y4 + entry(a, n, n, j5, i) * x5;
+        let y6 = y5 + entry(a, n, n, j6, i) * x6;
+        put1(w, i, y6 + entry(a, n, n, j7, i) * x7);
+    }
+}
+
+// Eight rows from j on where there are so many, else four, else one; what comes back is how far they are summed.
 fn more(n: usize, j: usize, a: &[f64], v: &[f64], w: &mut [f64]) -> usize
     requires { ⌜ (n ≤ 256) × (j < n) × (length (now a) ≡ n * n) × (length (now v) ≡ n) × (length (now w) ≡ n) ⌝ }
     ensures { λ r. ⌜ (r, now (w .exit)) ≡ more n (now (a .entry)) (now (v .entry)) j (now (w .entry)) ⌝ }
 {
+    if j + 7 < n {
+        let k = j + 4;
+        eight(n, j, j + 1, j + 2, j + 3, k, k + 1, k + 2, k + 3, a, v, w);
+        return k + 4;
+    }
     if j + 3 < n {
         four(n, j, j + 1, j + 2, j + 3, a, v, w);
         return j + 4;

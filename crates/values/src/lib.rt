@@ -7,11 +7,11 @@ ghost use Rattle.values.specs.Values.{factorsBad, normSq, divided, norma
 use grid::at1;
 use grid::put1;
 use leaves::Bad;
-use leaves::behind;
-use leaves::first_bad;
-use leaves::first_bad_cell;
 use leaves::is_bad;
 use root::root;
+use scan::behind;
+use scan::first_bad;
+use scan::first_bad_cell;
 
 // Mark 1: the first number of the factors that is not finite, row by row, u first.
 pub fn factors_bad(rows: usize, cols: usize, w: &[f64]) -> Bad

@@ -10,7 +10,8 @@ use Rattle.grid.specs.LoopLaws.{start, next, done}
 use mathlib.Core.Bool.{true}
 use Rattle.answers.specs.Answers as Answers
 use Rattle.symmetric.specs.Sides.{Mirror}
-use Rattle.krylov.specs.Krylov.{went, turn, steps}
+use Rattle.stepend.specs.End.{went}
+use Rattle.krylov.specs.Krylov.{turn, steps}
 use Rattle.krylov.proofs.steps.Statement.{statement}
 use Rattle.krylov.proofs.steps.Tie as tie
 

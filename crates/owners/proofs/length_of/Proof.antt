@@ -1,16 +1,13 @@
 -- Generated from the answers file beside it by tools/prove/prove.py: edit that.
 -- `owners::length_of` meets its contract.
-use mathlib.Core.Path.{_∙_, sym}
 use Prim.Native.Nat.{_+_, _*_}
 use native.Mathlib.Omega.{arith}
 use borrow.Author.Needs.{needs}
 use denote.Ref.{now}
-use lib.ListN.{take, drop, getD}
-use mathlib.Core.List.{List, _++_}
+use Rattle.owners.proofs.Fits.{Fits, fits}
+use Rattle.ownermap.specs.LaidLaws.{minus-is}
 use borrow.Author.Tests.{eq-eqb, ne-eqb}
-use Rattle.storemap.specs.Store.{Outcome}
 use Rattle.ownermap.specs.Owners.{quotaOf, startFor, barred, lengthFor}
-use Rattle.ownermap.specs.LaidLaws.{Laid, admitted, start-least, bounded, minus-is}
 use Rattle.owners.proofs.length_of.Statement.{statement}
 use Rattle.owners.proofs.length_of.Tie as tie
 
@@ -25,67 +22,67 @@ unfolding lengthFor
 returns c = rw (← c .before .before .bar .ensures, ne-eqb (c .before .before .bar .result) 0 (c .before .if1 .taken), c .refused .ensures)
 
 mul-a : tie.Need-mul-a
-mul-a c = let f = admitted (now (c .before .before .before .before .before .args .list)) (now (c .before .before .before .before .before .args .tiles)) (now (c .before .before .before .before .before .args .bytes)) (c .before .before .before .before .before .args .owner) (sym (c .before .bar .ensures) ∙ c .if1 .left) in omega (arith, f .0, f .1, start-least (c .before .before .before .before .before .args .owner) (now (c .before .before .before .before .before .args .list)) (f .0), bounded (c .before .before .before .before .before .args .owner) (now (c .before .before .before .before .before .args .list)) (f .0))
+mul-a c = let f = fits _ (now (c .before .before .before .before .before .args .list)) (now (c .before .before .before .before .before .args .tiles)) (now (c .before .before .before .before .before .args .bytes)) _ (c .before .bar .ensures) (c .if1 .left) in omega (arith, f .one, f .lists, f .tiled, f .starts, f .room)
 
 add-a : tie.Need-add-a
-add-a c = let f = admitted (now (c .before .before .before .before .before .args .list)) (now (c .before .before .before .before .before .args .tiles)) (now (c .before .before .before .before .before .args .bytes)) (c .before .before .before .before .before .args .owner) (sym (c .before .bar .ensures) ∙ c .if1 .left) in omega (arith, f .0, f .1, start-least (c .before .before .before .before .before .args .owner) (now (c .before .before .before .before .before .args .list)) (f .0), bounded (c .before .before .before .before .before .args .owner) (now (c .before .before .before .before .before .args .list)) (f .0))
+add-a c = let f = fits _ (now (c .before .before .before .before .before .args .list)) (now (c .before .before .before .before .before .args .tiles)) (now (c .before .before .before .before .before .args .bytes)) _ (c .before .bar .ensures) (c .if1 .left) in omega (arith, f .one, f .lists, f .tiled, f .starts, f .room)
 
 add-e : tie.Need-add-e
-add-e c = let f = admitted (now (c .before .before .before .before .before .args .list)) (now (c .before .before .before .before .before .args .tiles)) (now (c .before .before .before .before .before .args .bytes)) (c .before .before .before .before .before .args .owner) (sym (c .before .bar .ensures) ∙ c .if1 .left) in omega (arith, f .0, f .1, start-least (c .before .before .before .before .before .args .owner) (now (c .before .before .before .before .before .args .list)) (f .0), bounded (c .before .before .before .before .before .args .owner) (now (c .before .before .before .before .before .args .list)) (f .0))
+add-e c = let f = fits _ (now (c .before .before .before .before .before .args .list)) (now (c .before .before .before .before .before .args .tiles)) (now (c .before .before .before .before .before .args .bytes)) _ (c .before .bar .ensures) (c .if1 .left) in omega (arith, f .one, f .lists, f .tiled, f .starts, f .room)
 
 mul-b : tie.Need-mul-b
-mul-b c = let f = admitted (now (c .before .before .before .before .before .args .list)) (now (c .before .before .before .before .before .args .tiles)) (now (c .before .before .before .before .before .args .bytes)) (c .before .before .before .before .before .args .owner) (sym (c .before .bar .ensures) ∙ c .if1 .left) in omega (arith, f .0, f .1, start-least (c .before .before .before .before .before .args .owner) (now (c .before .before .before .before .before .args .list)) (f .0), bounded (c .before .before .before .before .before .args .owner) (now (c .before .before .before .before .before .args .list)) (f .0))
+mul-b c = let f = fits _ (now (c .before .before .before .before .before .args .list)) (now (c .before .before .before .before .before .args .tiles)) (now (c .before .before .before .before .before .args .bytes)) _ (c .before .bar .ensures) (c .if1 .left) in omega (arith, f .one, f .lists, f .tiled, f .starts, f .room)
 
 add-f : tie.Need-add-f
-add-f c = let f = admitted (now (c .before .before .before .before .before .args .list)) (now (c .before .before .before .before .before .args .tiles)) (now (c .before .before .before .before .before .args .bytes)) (c .before .before .before .before .before .args .owner) (sym (c .before .bar .ensures) ∙ c .if1 .left) in omega (arith, f .0, f .1, start-least (c .before .before .before .before .before .args .owner) (now (c .before .before .before .before .before .args .list)) (f .0), bounded (c .before .before .before .before .before .args .owner) (now (c .before .before .before .before .before .args .list)) (f .0))
+add-f c = let f = fits _ (now (c .before .before .before .before .before .args .list)) (now (c .before .before .before .before .before .args .tiles)) (now (c .before .before .before .before .before .args .bytes)) _ (c .before .bar .ensures) (c .if1 .left) in omega (arith, f .one, f .lists, f .tiled, f .starts, f .room)
 
 shared-slice-read-at : tie.Need-shared-slice-read-at
-shared-slice-read-at c = let f = admitted (now (c .before .before .before .before .before .before .args .list)) (now (c .before .before .before .before .before .before .args .tiles)) (now (c .before .before .before .before .before .before .args .bytes)) (c .before .before .before .before .before .before .args .owner) (sym (c .before .before .bar .ensures) ∙ c .before .if1 .left) in omega (arith, f .0, f .1, start-least (c .before .before .before .before .before .before .args .owner) (now (c .before .before .before .before .before .before .args .list)) (f .0), bounded (c .before .before .before .before .before .before .args .owner) (now (c .before .before .before .before .before .before .args .list)) (f .0))
+shared-slice-read-at c = let f = fits _ (now (c .before .before .before .before .before .before .args .list)) (now (c .before .before .before .before .before .before .args .tiles)) (now (c .before .before .before .before .before .before .args .bytes)) _ (c .before .before .bar .ensures) (c .before .if1 .left) in omega (arith, f .one, f .lists, f .tiled, f .starts, f .room)
 
 mul-at : tie.Need-mul-at
-mul-at c = let f = admitted (now (c .before .before .before .before .before .before .args .list)) (now (c .before .before .before .before .before .before .args .tiles)) (now (c .before .before .before .before .before .before .args .bytes)) (c .before .before .before .before .before .before .args .owner) (sym (c .before .before .bar .ensures) ∙ c .before .if1 .left) in omega (arith, f .0, f .1, start-least (c .before .before .before .before .before .before .args .owner) (now (c .before .before .before .before .before .before .args .list)) (f .0), bounded (c .before .before .before .before .before .before .args .owner) (now (c .before .before .before .before .before .before .args .list)) (f .0))
+mul-at c = let f = fits _ (now (c .before .before .before .before .before .before .args .list)) (now (c .before .before .before .before .before .before .args .tiles)) (now (c .before .before .before .before .before .before .args .bytes)) _ (c .before .before .bar .ensures) (c .before .if1 .left) in omega (arith, f .one, f .lists, f .tiled, f .starts, f .room)
 
 mul-end : tie.Need-mul-end
-mul-end c = let f = admitted (now (c .before .before .before .before .before .before .args .list)) (now (c .before .before .before .before .before .before .args .tiles)) (now (c .before .before .before .before .before .before .args .bytes)) (c .before .before .before .before .before .before .args .owner) (sym (c .before .before .bar .ensures) ∙ c .before .if1 .left) in omega (arith, f .0, f .1, start-least (c .before .before .before .before .before .before .args .owner) (now (c .before .before .before .before .before .before .args .list)) (f .0), bounded (c .before .before .before .before .before .before .args .owner) (now (c .before .before .before .before .before .before .args .list)) (f .0))
+mul-end c = let f = fits _ (now (c .before .before .before .before .before .before .args .list)) (now (c .before .before .before .before .before .before .args .tiles)) (now (c .before .before .before .before .before .before .args .bytes)) _ (c .before .before .bar .ensures) (c .before .if1 .left) in omega (arith, f .one, f .lists, f .tiled, f .starts, f .room)
 
 shared-slice-read-end : tie.Need-shared-slice-read-end
-shared-slice-read-end c = let f = admitted (now (c .before .before .before .before .before .before .before .args .list)) (now (c .before .before .before .before .before .before .before .args .tiles)) (now (c .before .before .before .before .before .before .before .args .bytes)) (c .before .before .before .before .before .before .before .args .owner) (sym (c .before .before .before .bar .ensures) ∙ c .before .before .if1 .left) in omega (arith, f .0, f .1, start-least (c .before .before .before .before .before .before .before .args .owner) (now (c .before .before .before .before .before .before .before .args .list)) (f .0), bounded (c .before .before .before .before .before .before .before .args .owner) (now (c .before .before .before .before .before .before .before .args .list)) (f .0))
+shared-slice-read-end c = let f = fits _ (now (c .before .before .before .before .before .before .before .args .list)) (now (c .before .before .before .before .before .before .before .args .tiles)) (now (c .before .before .before .before .before .before .before .args .bytes)) _ (c .before .before .before .bar .ensures) (c .before .before .if1 .left) in omega (arith, f .one, f .lists, f .tiled, f .starts, f .room)
 
 add-end : tie.Need-add-end
-add-end c = let f = admitted (now (c .before .before .before .before .before .before .before .args .list)) (now (c .before .before .before .before .before .before .before .args .tiles)) (now (c .before .before .before .before .before .before .before .args .bytes)) (c .before .before .before .before .before .before .before .args .owner) (sym (c .before .before .before .bar .ensures) ∙ c .before .before .if1 .left) in omega (arith, f .0, f .1, start-least (c .before .before .before .before .before .before .before .args .owner) (now (c .before .before .before .before .before .before .before .args .list)) (f .0), bounded (c .before .before .before .before .before .before .before .args .owner) (now (c .before .before .before .before .before .before .before .args .list)) (f .0))
+add-end c = let f = fits _ (now (c .before .before .before .before .before .before .before .args .list)) (now (c .before .before .before .before .before .before .before .args .tiles)) (now (c .before .before .before .before .before .before .before .args .bytes)) _ (c .before .before .before .bar .ensures) (c .before .before .if1 .left) in omega (arith, f .one, f .lists, f .tiled, f .starts, f .room)
 
 mul-length-of : tie.Need-mul-length-of
-mul-length-of c = let f = admitted (now (c .before .before .before .before .before .before .before .args .list)) (now (c .before .before .before .before .before .before .before .args .tiles)) (now (c .before .before .before .before .before .before .before .args .bytes)) (c .before .before .before .before .before .before .before .args .owner) (sym (c .before .before .before .bar .ensures) ∙ c .before .before .if1 .left) in omega (arith, f .0, f .1, start-least (c .before .before .before .before .before .before .before .args .owner) (now (c .before .before .before .before .before .before .before .args .list)) (f .0), bounded (c .before .before .before .before .before .before .before .args .owner) (now (c .before .before .before .before .before .before .before .args .list)) (f .0))
+mul-length-of c = let f = fits _ (now (c .before .before .before .before .before .before .before .args .list)) (now (c .before .before .before .before .before .before .before .args .tiles)) (now (c .before .before .before .before .before .before .before .args .bytes)) _ (c .before .before .before .bar .ensures) (c .before .before .if1 .left) in omega (arith, f .one, f .lists, f .tiled, f .starts, f .room)
 
 sub-length-of : tie.Need-sub-length-of
-sub-length-of c = let f = admitted (now (c .before .before .before .before .before .before .before .args .list)) (now (c .before .before .before .before .before .before .before .args .tiles)) (now (c .before .before .before .before .before .before .before .args .bytes)) (c .before .before .before .before .before .before .before .args .owner) (sym (c .before .before .before .bar .ensures) ∙ c .before .before .if1 .left) in omega (arith, f .0, f .1, start-least (c .before .before .before .before .before .before .before .args .owner) (now (c .before .before .before .before .before .before .before .args .list)) (f .0), bounded (c .before .before .before .before .before .before .before .args .owner) (now (c .before .before .before .before .before .before .before .args .list)) (f .0))
+sub-length-of c = let f = fits _ (now (c .before .before .before .before .before .before .before .args .list)) (now (c .before .before .before .before .before .before .before .args .tiles)) (now (c .before .before .before .before .before .before .before .args .bytes)) _ (c .before .before .before .bar .ensures) (c .before .before .if1 .left) in omega (arith, f .one, f .lists, f .tiled, f .starts, f .room)
 
 part-length-of-start : tie.Need-part-length-of-start
-part-length-of-start c = let f = admitted (now (c .before .before .before .before .before .before .before .args .list)) (now (c .before .before .before .before .before .before .before .args .tiles)) (now (c .before .before .before .before .before .before .before .args .bytes)) (c .before .before .before .before .before .before .before .args .owner) (sym (c .before .before .before .bar .ensures) ∙ c .before .before .if1 .left) in omega (arith, f .0, f .1, start-least (c .before .before .before .before .before .before .before .args .owner) (now (c .before .before .before .before .before .before .before .args .list)) (f .0), bounded (c .before .before .before .before .before .before .before .args .owner) (now (c .before .before .before .before .before .before .before .args .list)) (f .0))
+part-length-of-start c = let f = fits _ (now (c .before .before .before .before .before .before .before .args .list)) (now (c .before .before .before .before .before .before .before .args .tiles)) (now (c .before .before .before .before .before .before .before .args .bytes)) _ (c .before .before .before .bar .ensures) (c .before .before .if1 .left) in omega (arith, f .one, f .lists, f .tiled, f .starts, f .room)
 
 part-length-of-end : tie.Need-part-length-of-end
-part-length-of-end c = let f = admitted (now (c .before .before .before .before .before .before .before .args .list)) (now (c .before .before .before .before .before .before .before .args .tiles)) (now (c .before .before .before .before .before .before .before .args .bytes)) (c .before .before .before .before .before .before .before .args .owner) (sym (c .before .before .before .bar .ensures) ∙ c .before .before .if1 .left) in omega (arith, f .0, f .1, start-least (c .before .before .before .before .before .before .before .args .owner) (now (c .before .before .before .before .before .before .before .args .list)) (f .0), bounded (c .before .before .before .before .before .before .before .args .owner) (now (c .before .before .before .before .before .before .before .args .list)) (f .0))
+part-length-of-end c = let f = fits _ (now (c .before .before .before .before .before .before .before .args .list)) (now (c .before .before .before .before .before .before .before .args .tiles)) (now (c .before .before .before .before .before .before .before .args .bytes)) _ (c .before .before .before .bar .ensures) (c .before .before .if1 .left) in omega (arith, f .one, f .lists, f .tiled, f .starts, f .room)
 
 mul-length-of-2 : tie.Need-mul-length-of-2
-mul-length-of-2 c = let f = admitted (now (c .before .before .before .before .before .before .before .before .args .list)) (now (c .before .before .before .before .before .before .before .before .args .tiles)) (now (c .before .before .before .before .before .before .before .before .args .bytes)) (c .before .before .before .before .before .before .before .before .args .owner) (sym (c .before .before .before .before .bar .ensures) ∙ c .before .before .before .if1 .left) in omega (arith, f .0, f .1, start-least (c .before .before .before .before .before .before .before .before .args .owner) (now (c .before .before .before .before .before .before .before .before .args .list)) (f .0), bounded (c .before .before .before .before .before .before .before .before .args .owner) (now (c .before .before .before .before .before .before .before .before .args .list)) (f .0))
+mul-length-of-2 c = let f = fits _ (now (c .before .before .before .before .before .before .before .before .args .list)) (now (c .before .before .before .before .before .before .before .before .args .tiles)) (now (c .before .before .before .before .before .before .before .before .args .bytes)) _ (c .before .before .before .before .bar .ensures) (c .before .before .before .if1 .left) in omega (arith, f .one, f .lists, f .tiled, f .starts, f .room)
 
 sub-length-of-2 : tie.Need-sub-length-of-2
-sub-length-of-2 c = let f = admitted (now (c .before .before .before .before .before .before .before .before .args .list)) (now (c .before .before .before .before .before .before .before .before .args .tiles)) (now (c .before .before .before .before .before .before .before .before .args .bytes)) (c .before .before .before .before .before .before .before .before .args .owner) (sym (c .before .before .before .before .bar .ensures) ∙ c .before .before .before .if1 .left) in omega (arith, f .0, f .1, start-least (c .before .before .before .before .before .before .before .before .args .owner) (now (c .before .before .before .before .before .before .before .before .args .list)) (f .0), bounded (c .before .before .before .before .before .before .before .before .args .owner) (now (c .before .before .before .before .before .before .before .before .args .list)) (f .0))
+sub-length-of-2 c = let f = fits _ (now (c .before .before .before .before .before .before .before .before .args .list)) (now (c .before .before .before .before .before .before .before .before .args .tiles)) (now (c .before .before .before .before .before .before .before .before .args .bytes)) _ (c .before .before .before .before .bar .ensures) (c .before .before .before .if1 .left) in omega (arith, f .one, f .lists, f .tiled, f .starts, f .room)
 
 part-length-of-start-2 : tie.Need-part-length-of-start-2
-part-length-of-start-2 c = let f = admitted (now (c .before .before .before .before .before .before .before .before .args .list)) (now (c .before .before .before .before .before .before .before .before .args .tiles)) (now (c .before .before .before .before .before .before .before .before .args .bytes)) (c .before .before .before .before .before .before .before .before .args .owner) (sym (c .before .before .before .before .bar .ensures) ∙ c .before .before .before .if1 .left) in omega (arith, f .0, f .1, start-least (c .before .before .before .before .before .before .before .before .args .owner) (now (c .before .before .before .before .before .before .before .before .args .list)) (f .0), bounded (c .before .before .before .before .before .before .before .before .args .owner) (now (c .before .before .before .before .before .before .before .before .args .list)) (f .0))
+part-length-of-start-2 c = let f = fits _ (now (c .before .before .before .before .before .before .before .before .args .list)) (now (c .before .before .before .before .before .before .before .before .args .tiles)) (now (c .before .before .before .before .before .before .before .before .args .bytes)) _ (c .before .before .before .before .bar .ensures) (c .before .before .before .if1 .left) in omega (arith, f .one, f .lists, f .tiled, f .starts, f .room)
 
 part-length-of-end-2 : tie.Need-part-length-of-end-2
-part-length-of-end-2 c = let f = admitted (now (c .before .before .before .before .before .before .before .before .args .list)) (now (c .before .before .before .before .before .before .before .before .args .tiles)) (now (c .before .before .before .before .before .before .before .before .args .bytes)) (c .before .before .before .before .before .before .before .before .args .owner) (sym (c .before .before .before .before .bar .ensures) ∙ c .before .before .before .if1 .left) in omega (arith, f .0, f .1, start-least (c .before .before .before .before .before .before .before .before .args .owner) (now (c .before .before .before .before .before .before .before .before .args .list)) (f .0), bounded (c .before .before .before .before .before .before .before .before .args .owner) (now (c .before .before .before .before .before .before .before .before .args .list)) (f .0))
+part-length-of-end-2 c = let f = fits _ (now (c .before .before .before .before .before .before .before .before .args .list)) (now (c .before .before .before .before .before .before .before .before .args .tiles)) (now (c .before .before .before .before .before .before .before .before .args .bytes)) _ (c .before .before .before .before .bar .ensures) (c .before .before .before .if1 .left) in omega (arith, f .one, f .lists, f .tiled, f .starts, f .room)
 
 sub-length-of-3 : tie.Need-sub-length-of-3
-sub-length-of-3 c = let f = admitted (now (c .before .before .before .before .before .before .before .before .before .args .list)) (now (c .before .before .before .before .before .before .before .before .before .args .tiles)) (now (c .before .before .before .before .before .before .before .before .before .args .bytes)) (c .before .before .before .before .before .before .before .before .before .args .owner) (sym (c .before .before .before .before .before .bar .ensures) ∙ c .before .before .before .before .if1 .left) in omega (arith, f .0, f .1, start-least (c .before .before .before .before .before .before .before .before .before .args .owner) (now (c .before .before .before .before .before .before .before .before .before .args .list)) (f .0), bounded (c .before .before .before .before .before .before .before .before .before .args .owner) (now (c .before .before .before .before .before .before .before .before .before .args .list)) (f .0))
+sub-length-of-3 c = let f = fits _ (now (c .before .before .before .before .before .before .before .before .before .args .list)) (now (c .before .before .before .before .before .before .before .before .before .args .tiles)) (now (c .before .before .before .before .before .before .before .before .before .args .bytes)) _ (c .before .before .before .before .before .bar .ensures) (c .before .before .before .before .if1 .left) in omega (arith, f .one, f .lists, f .tiled, f .starts, f .room)
 
 part-length-of-start-3 : tie.Need-part-length-of-start-3
-part-length-of-start-3 c = let f = admitted (now (c .before .before .before .before .before .before .before .before .before .args .list)) (now (c .before .before .before .before .before .before .before .before .before .args .tiles)) (now (c .before .before .before .before .before .before .before .before .before .args .bytes)) (c .before .before .before .before .before .before .before .before .before .args .owner) (sym (c .before .before .before .before .before .bar .ensures) ∙ c .before .before .before .before .if1 .left) in omega (arith, f .0, f .1, start-least (c .before .before .before .before .before .before .before .before .before .args .owner) (now (c .before .before .before .before .before .before .before .before .before .args .list)) (f .0), bounded (c .before .before .before .before .before .before .before .before .before .args .owner) (now (c .before .before .before .before .before .before .before .before .before .args .list)) (f .0))
+part-length-of-start-3 c = let f = fits _ (now (c .before .before .before .before .before .before .before .before .before .args .list)) (now (c .before .before .before .before .before .before .before .before .before .args .tiles)) (now (c .before .before .before .before .before .before .before .before .before .args .bytes)) _ (c .before .before .before .before .before .bar .ensures) (c .before .before .before .before .if1 .left) in omega (arith, f .one, f .lists, f .tiled, f .starts, f .room)
 
 part-length-of-end-3 : tie.Need-part-length-of-end-3
-part-length-of-end-3 c = let f = admitted (now (c .before .before .before .before .before .before .before .before .before .args .list)) (now (c .before .before .before .before .before .before .before .before .before .args .tiles)) (now (c .before .before .before .before .before .before .before .before .before .args .bytes)) (c .before .before .before .before .before .before .before .before .before .args .owner) (sym (c .before .before .before .before .before .bar .ensures) ∙ c .before .before .before .before .if1 .left) in omega (arith, f .0, f .1, start-least (c .before .before .before .before .before .before .before .before .before .args .owner) (now (c .before .before .before .before .before .before .before .before .before .args .list)) (f .0), bounded (c .before .before .before .before .before .before .before .before .before .args .owner) (now (c .before .before .before .before .before .before .before .before .before .args .list)) (f .0))
+part-length-of-end-3 c = let f = fits _ (now (c .before .before .before .before .before .before .before .before .before .args .list)) (now (c .before .before .before .before .before .before .before .before .before .args .tiles)) (now (c .before .before .before .before .before .before .before .before .before .args .bytes)) _ (c .before .before .before .before .before .bar .ensures) (c .before .before .before .before .if1 .left) in omega (arith, f .one, f .lists, f .tiled, f .starts, f .room)
 
 length-of-requires : tie.Need-length-of-requires
 length-of-requires c κs = search needs

@@ -4,6 +4,7 @@ use native.Mathlib.Omega.{arith}
 use borrow.Author.Needs.{needs}
 use denote.Ref.{now}
 use Rattle.storemap.specs.Store.{heldOf}
+use Rattle.store.proofs.Sound.{removed-whole}
 use Rattle.storemap.specs.StartLaws.{start-below, start-ends}
 use Rattle.store.proofs.remove.Statement.{statement}
 use Rattle.store.proofs.remove.Tie as tie
@@ -60,7 +61,7 @@ same-length-3 : tie.Need-same-length-3
 same-length-3 c = search needs
 
 returns : tie.Need-returns
-returns c = rw (c .before .before .before .before .before .before .before .before .before .before .before .close .ensures, c .before .before .before .before .before .before .before .close-tiles .ensures, c .before .before .before .close-list .ensures, c .before .before .before .before .before .before .before .before .before .before .before .before .before .before .before .start-of .ensures, c .before .before .before .before .before .before .before .before .before .before .before .before .before .start-of2 .ensures, c .done .ensures)
+returns c = removed-whole (now (c .before .before .before .before .before .before .before .before .before .before .before .before .before .before .before .before .before .before .before .before .before .before .args .list)) (now (c .before .before .before .before .before .before .before .before .before .before .before .before .before .before .before .before .before .before .before .before .before .before .args .tiles)) (now (c .before .before .before .before .before .before .before .before .before .before .before .before .before .before .before .before .before .before .before .before .before .before .args .bytes)) (c .before .before .before .close-list .last .0) (c .before .before .before .before .before .before .before .close-tiles .last .0) (c .before .before .before .before .before .before .before .before .before .before .before .close .last .0) (c .before .before .before .before .before .before .before .before .before .before .before .before .before .before .before .before .before .before .before .before .before .before .args .k) (c .before .before .before .before .before .before .before .before .before .before .before .before .before .before .before .start-of .result) (c .before .before .before .before .before .before .before .before .before .before .before .before .before .start-of2 .result) (c .done .result) (c .before .before .before .before .before .before .before .before .before .before .before .before .before .before .before .start-of .ensures) (c .before .before .before .before .before .before .before .before .before .before .before .before .before .start-of2 .ensures) (c .before .before .before .before .before .before .before .before .before .before .before .close .ensures) (c .before .before .before .before .before .before .before .close-tiles .ensures) (c .before .before .before .close-list .ensures) (c .done .ensures)
 
 pub remove-spec : {M : Type 1} → statement M
 remove-spec =

@@ -1,0 +1,2 @@
+-- What is handed back. Laws only.
+pub mod Laid

@@ -1,0 +1,2 @@
+-- The leading pairs.
+pub mod Leading

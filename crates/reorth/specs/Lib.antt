@@ -1,0 +1,3 @@
+-- The two rounds. Against: laws.
+pub mod Reorth
+pub mod Against

@@ -1,0 +1,2 @@
+-- The similarity transformation by pairs of columns.
+pub mod Pairs

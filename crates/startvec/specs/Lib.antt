@@ -1,0 +1,2 @@
+-- The first vector.
+pub mod Start

@@ -1,0 +1,2 @@
+-- The end of a step.
+pub mod End
