@@ -1,8 +1,9 @@
 # make               the archive and the header into dist/: proves the crate crewelmarsh and what it uses, no program and no must-fail edit
 # make test          the gate, what .ci/run calls: what is quick to look at; rt ci, which proves everything from nothing; over what it proved
 #                    the archive, the C tests, the example. rt's line, 'N passed, 0 failed', is the last, if all of it passed
-# make example       the codec's example in C, built and run
-# make believe       every definition that the public promises reach, in reading order, into build/believe.txt
+# make example       the examples in C, built and run: a codec, a decode loop, one that keeps 8 of 256 components
+# make believe       every definition that the promises of the calls reach, those of C and of Rattle but not those of the text programs, in reading
+#                    order, into build/believe.txt; tools/believe names the calls
 # make install       archive, shared library, header and the rest under PREFIX; make release packs them (tools/install.mk)
 # make proofs-fresh  whether each generated Proof.antt is what tools/prove/prove.py writes today
 # make compare       fresh random cases against the Rust oracle: SEED=.. CASES=..
@@ -24,7 +25,7 @@ include oracle/oracle.mk
 
 # What the gate runs before rt ci, since it takes no time, and what behind it.
 QUICK := verbatim rooms-check believe-check pencil-check plot-check
-GATE := archive boundary example-test
+GATE := parts boundary example-test
 
 test:
 	@RT='$(RT)' MAKE='$(MAKE)' sh tools/gate.sh $(QUICK) -- $(GATE)

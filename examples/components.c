@@ -63,7 +63,7 @@ static double share(void)
     return 100 * kept / trace;
 }
 
-/* The largest difference of the 8 values to symmetric_eigen's, as a part of the greatest. */
+/* The largest difference of the 8 values to symmetric_eigen's, as a part of the greatest; a NaN where one is. */
 static double apart(void)
 {
     double most = 0;
@@ -71,7 +71,10 @@ static double apart(void)
     for (i = 0; i < KEPT; i++) {
         double d = pairs[i] - all[BANDS - 1 - i];
         d = d < 0 ? -d : d;
-        most = d > most ? d : most;
+        if (d != d)
+            return d;
+        if (d > most)
+            most = d;
     }
     return most / pairs[0];
 }

@@ -72,8 +72,10 @@ fn rest(n: usize, a: &[f64], right: &[f64]) {
 
 fn machine() -> String {
     let about = std::fs::read_to_string("/proc/cpuinfo").unwrap_or_default();
-    let model = about.lines().find(|l| l.starts_with("model name")).and_then(|l| l.split(": ").nth(1)).unwrap_or("unknown");
-    format!("{} ({model})", std::env::consts::ARCH)
+    let said = |name: &str| about.lines().find(|l| l.starts_with(name)).and_then(|l| l.split(": ").nth(1));
+    // Arm's processors say numbers in place of a name.
+    let model = said("model name").map(str::to_string).or_else(|| Some(format!("implementer {}, part {}", said("CPU implementer")?, said("CPU part")?)));
+    format!("{} ({})", std::env::consts::ARCH, model.unwrap_or("unknown".into()))
 }
 
 pub fn table(rng: &mut Random) {

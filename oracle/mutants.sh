@@ -2,7 +2,7 @@
 # Wrong versions of the patched functions, each behind the C entries in the archive's place. The committed list and the C tests
 # (tests/*.c) must each find every one: a version that agrees with all cases of the list, or that passes all of the tests, fails this
 # script. The patched functions as they are come first, and must pass both. Those of blocks, of the store, of the tally and of what a step refuses are for the C tests alone: the list has none.
-# Each line of the table is a sed command on src/patched.rs (for hypot on src/hypot.rs, for blocks on src/block.rs, for the store on src/store.rs, for steps on src/steps.rs, for the tally on src/tally.rs); it must change the text.
+# Each line of the table is a sed command on src/patched.rs (for hypot on src/hypot.rs, for blocks on src/block.rs, for the store on src/store.rs, for steps on src/steps.rs, for the tally on src/tally.rs, for lanczos on src/lanczos.rs); it must change the text.
 # Needs rustc, a C and a C++ compiler: RUSTC, CC, CXX.
 set -e
 cd "$(dirname "$0")"

@@ -113,7 +113,7 @@ target/bin/vectors: $(CRATE_FILES)
 	$(RT) check vectors
 
 compare-hypot: $(ORACLE)/oracle target/bin/vectors
-	$(ORACLE)/oracle hypots $(SEED) $(PAIRS) | split -l 1900 --filter='$(EMULATOR) target/bin/vectors' >$(ORACLE)/hypots
+	$(ORACLE)/oracle hypots $(SEED) $(PAIRS) | split -l 1900 --filter='$(RUN) target/bin/vectors' >$(ORACLE)/hypots
 	$(ORACLE)/oracle hypots-wanted $(SEED) $(PAIRS) | cmp - $(ORACLE)/hypots
 	@echo "hypot, edition 2: $$(wc -l <$(ORACLE)/hypots) pairs, none differs"
 	$(ORACLE)/oracle hypots-platform $(SEED) $(PAIRS)

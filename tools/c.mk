@@ -4,6 +4,7 @@
 #   make archive       dist/libcrewelmarsh.a and dist/crewelmarsh.h
 #   make example       builds and runs examples/codec.c, examples/decoder.c and examples/components.c
 #   make example-test  the same, and what each writes is held to examples/NAME.expected
+#   make parts         the archive, and beside it what the C tests and the examples are linked from
 #   make boundary      the test of the C boundary: header, names, every entry and answer
 #
 # ARCHIVE=PATH tests another archive with the same entries.
@@ -41,7 +42,7 @@ C99 = $(CLANG) $(TARGET_FLAGS) $(WARNINGS) -std=c99
 CPLUSPLUS = $(CLANG) $(TARGET_FLAGS) $(WARNINGS) -x c++ -std=c++98
 HEADERS := include/crewelmarsh.h $(wildcard tools/headers/*.h)
 
-.PHONY: archive example example-test boundary boundary-names boundary-header boundary-run FORCE
+.PHONY: archive parts example example-test boundary boundary-names boundary-header boundary-run FORCE
 
 archive: dist/libcrewelmarsh.a dist/crewelmarsh.h
 
@@ -55,6 +56,8 @@ dist/crewelmarsh.h: include/crewelmarsh.h
 	cp $< $@
 
 EXAMPLES := codec decoder components
+
+parts: archive $(BOUNDARY_OBJECTS) $(EXAMPLES:%=build/examples/%.o)
 
 example: $(EXAMPLES:%=build/examples/%)
 	@for name in $(EXAMPLES); do $(RUN) build/examples/$$name || exit 1; done

@@ -1,10 +1,13 @@
 #!/bin/sh
 # gate.sh TARGET.. -- TARGET..: the merge gate. The kit, the layout and the first make targets; rt ci, which proves everything from nothing;
 # then the other targets, over what it proved. rt's own line, 'N passed, 0 failed', is written last and only if all of it passed: where rt ci writes it, it stands
-# behind 'rt ci: ', so that a gate that fails has no such line.
+# behind 'rt ci: ', so that a gate that fails has no such line. RT_JOBS is how many crates rt works on at a time: twice as many as there are processors, since it waits for the
+# slowest of each batch.
 set -u
 cd "$(dirname "$0")/.."
 RT=${RT:-rt} MAKE=${MAKE:-make}
+processors=$(nproc 2>/dev/null || echo 1)
+export RT_JOBS="${RT_JOBS:-$((2 * processors))}"
 log=build/gate.log
 began=$(date +%s)
 
@@ -45,6 +48,6 @@ echo "$line" | grep -Eqx '[1-9][0-9]* passed, 0 failed' || failed 1 "rt ci: its 
 passed "rt ci"
 
 # The archive is made of what rt ci has just proved; the crate of the entries alone is proved once more.
-for target; do step "$target" "$MAKE" -s --no-print-directory "$target"; done
+for target; do step "$target" "$MAKE" -s --no-print-directory -j"$processors" "$target"; done
 echo "gate: all passed ($(($(date +%s) - began)) s)"
 echo "$line"

@@ -49,7 +49,7 @@ fn covariance(rng: &mut Random, n: usize) -> Vec<f64> {
     a
 }
 
-/// Every refusal alone and with those behind it, the start vectors, 1e-12 and its neighbours, and what is not finite at every place.
+/// Every refusal alone and with those behind it, the start vectors, 1e-12 and its neighbours, and what is not finite at places 0, 1, 3, 4 and 5.
 pub fn special() -> Vec<Case> {
     let (max, nan, inf) = (f64::MAX, f64::NAN, f64::INFINITY);
     let tiny = 1e-12;
@@ -117,7 +117,7 @@ pub fn special() -> Vec<Case> {
         // Not symmetric: all of the matrix is read.
         out.push(case([2, 2, 60, edition], &[1.0, 7.0, 2.0, 3.0], &[1.0, 1.0]));
         out.push(case([2, 2, 60, edition], &[1.0, 2.0, 7.0, 3.0], &[1.0, 1.0]));
-        // The start norm (3), alpha (4), beta (5): infinite and NaN, in the first step and later.
+        // The start norm (3) infinite; alpha (4) infinite and NaN, in the first step and later; beta (5) infinite in both, NaN in the first.
         out.push(case([2, 1, 60, edition], &swap(1.0), &[max, max]));
         out.push(case([2, 1, 60, edition], &[max, max, max, max], &[1.0, 1.0]));
         out.push(case([2, 1, 60, edition], &[max, max, -max, -max], &[1.0, 1.0]));

@@ -4,25 +4,14 @@ use mathlib.Core.Logic.{⊎-elim}
 use mathlib.Core.Bool.{Bool, true, false, cond}
 use Prim.Native.Nat.{ℕ, _≤_}
 use native.Mathlib.Omega.{arith}
-use lib.Dec.{eqb}
 use Rattle.grid.specs.Real.{Vec}
 use Rattle.leaves.specs.declared.Bad.{Bad}
 use Rattle.leaves.specs.declared.Bad.the-variants.{At, Nowhere}
-use Rattle.answers.specs.Answers.{done, refused, passed, lengths, refusal7, unlessBad}
+use Rattle.answers.specs.Answers.{refused, passed, refusal7, unlessBad}
 use Rattle.answers.specs.Index.{AtMark, Indexed}
 use Rattle.answers.specs.declared.Answer.{Answer}
 
 -- ---- the checks
-
-pub lengths-index : (a wa b wb c wc : ℕ) → lengths a wa b wb c wc .index ≡ 0
-unfolding lengths
-lengths-index a wa b wb c wc = go (eqb a wa) (eqb b wb) (eqb c wc)
-  where
-    go : (p q r : Bool) → cond p (cond q (cond r (done 0) (refused 6 2)) (refused 6 1)) (refused 6 0) .index ≡ 0
-    go true true true = refl
-    go true true false = refl
-    go true false r = refl
-    go false q r = refl
 
 pub refuse-index : (b : Bool) (k p : ℕ) (y : Answer) → y .index ≡ 0 → cond b (refused k p) y .index ≡ 0
 refuse-index true k p y h = refl

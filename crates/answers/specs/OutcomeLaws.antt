@@ -1,16 +1,15 @@
 -- What checks say where they pass and where they refuse, of one call and of two that differ in old contents or in the limit. Laws only.
 use mathlib.Core.Path.{_≡_, refl, sym, ap, subst}
-use mathlib.Core.Bool.{Bool, true, false, cond, _&&_, true≢false}
+use mathlib.Core.Bool.{Bool, true, false, cond, true≢false}
 use Prim.Native.Nat.{ℕ, _≤_}
 use native.Mathlib.Omega.{arith}
-use borrow.Author.Tests.{le-leb, leb-true, eq-eqb, ne-eqb, eqb-true, eqb-false}
-use lib.Dec.{leb, eqb}
+use borrow.Author.Tests.{eq-eqb, ne-eqb, eqb-false}
 use lib.ListN.{length}
 use Rattle.grid.specs.Real.{Vec, zeros}
 use Rattle.leaves.specs.Finite.{Finite}
 use Rattle.leaves.specs.declared.Bad.{Bad}
 use Rattle.leaves.specs.declared.Bad.the-variants.{At, Nowhere}
-use Rattle.answers.specs.Answers.{done, refused, passed, limitGood, lengths, present, refusal7, unlessBad}
+use Rattle.answers.specs.Answers.{refused, passed, present, refusal7, unlessBad}
 use Rattle.answers.specs.Early.{Early}
 use Rattle.answers.specs.declared.Answer.{Answer}
 
@@ -26,45 +25,11 @@ present-none flag count p = rw (eq-eqb flag 0 p)
 
 -- ---- a check that passes
 
-pub lengths-right : (a wa b wb c wc : ℕ) → lengths a wa b wb c wc .answer ≡ 0 → (a ≡ wa) × (b ≡ wb) × (c ≡ wc)
-unfolding lengths
-lengths-right a wa b wb c wc = go (eqb a wa) refl (eqb b wb) refl (eqb c wc) refl
-  where
-    go : (p : Bool) → eqb a wa ≡ p → (q : Bool) → eqb b wb ≡ q → (r : Bool) → eqb c wc ≡ r
-        → cond p (cond q (cond r (done 0) (refused 6 2)) (refused 6 1)) (refused 6 0) .answer ≡ 0 → (a ≡ wa) × (b ≡ wb) × (c ≡ wc)
-    go true e true f true g h = (eqb-true a wa e, eqb-true b wb f, eqb-true c wc g)
-    go true e true f false g h = absurd (omega arith)
-    go true e false f r g h = absurd (omega arith)
-    go false e q f r g h = absurd (omega arith)
-
-pub limit-right : (limit : ℕ) → limitGood limit ≡ true → (1 ≤ limit) × (limit ≤ 60)
-unfolding limitGood
-limit-right limit = go (leb 1 limit) refl (leb limit 60) refl
-  where
-    go : (p : Bool) → leb 1 limit ≡ p → (q : Bool) → leb limit 60 ≡ q → (p && q) ≡ true → (1 ≤ limit) × (limit ≤ 60)
-    go true e true f h = (leb-true 1 limit e, leb-true limit 60 f)
-    go true e false f h = absurd (true≢false (sym h))
-    go false e q f h = absurd (true≢false (sym h))
-
-pub right-limit : (limit : ℕ) → 1 ≤ limit → limit ≤ 60 → limitGood limit ≡ true
-unfolding limitGood
-right-limit limit p q = simp (le-leb 1 limit p, le-leb limit 60 q)
-
 pub none-seven : (b : Bad) → refusal7 b .answer ≡ 0 → b ≡ Nowhere
 none-seven (At k c) h = absurd (omega arith)
 none-seven Nowhere h = refl
 
 -- ---- a check refuses with 6 at the most
-
-pub lengths-few : (a wa b wb c wc : ℕ) → lengths a wa b wb c wc .answer ≤ 6
-unfolding lengths
-lengths-few a wa b wb c wc = go (eqb a wa) (eqb b wb) (eqb c wc)
-  where
-    go : (p q r : Bool) → cond p (cond q (cond r (done 0) (refused 6 2)) (refused 6 1)) (refused 6 0) .answer ≤ 6
-    go true true true = omega arith
-    go true true false = omega arith
-    go true false r = omega arith
-    go false q r = omega arith
 
 pub refuse-few : (b : Bool) (k p : ℕ) (y : Answer) → k ≤ 6 → y .answer ≤ 6 → cond b (refused k p) y .answer ≤ 6
 refuse-few true k p y h q = h

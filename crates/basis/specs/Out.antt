@@ -1,4 +1,4 @@
--- Into the work array and out of it, in two runs: what is loaded of matrices that differ by 2 ^ k, the order of values that do, and the results that are laid out.
+-- Into the work array and out of it, in two runs: what is loaded of matrices that differ by 2 ^ k, the order of values that do, and the results that are laid out. Laws only.
 use mathlib.Core.Path.{_≡_, refl, sym, ap, ap₂, _∙_, subst}
 use mathlib.Core.Bool.{Bool, true, false, cond, not, _||_, _&&_}
 use mathlib.Core.List.{List}

@@ -9,7 +9,7 @@ use Rattle.grid.specs.Real.{Vec}
 use Rattle.leaves.specs.declared.Bad.{Bad}
 use Rattle.answers.specs.declared.Answer.{Answer}
 use Rattle.sweep.specs.Sweep.{pairDone, pairsOf, sweep}
-use Rattle.values.specs.Values.{factorsBad}
+use Rattle.marks.specs.Marks.{factorsBad}
 use Rattle.jacobi.specs.Jacobi.{going, verdict, swept, ended, sweeps}
 use Rattle.gain.specs.Alike.{Alike, under}
 use Rattle.gain.specs.AlongLaws.{along-both, rounds-both}

@@ -1,5 +1,5 @@
--- The values, in two runs whose first factors differ by 2 ^ k: the norms differ by 2 ^ k, and a column that is divided by its norm is the same in both. A column whose norm is zero is
--- all zeros, since no square of a nonzero number is zero, and so it is the same in both too. Laws only.
+-- The values, in two runs whose first factors differ by 2 ^ k: the norms differ by 2 ^ k, and a column that is divided by its norm is the same in both. Laws only.
+-- A column whose norm is zero is all zeros, since no square of a nonzero number is zero, and so it is the same in both too.
 use mathlib.Core.Path.{_≡_, refl, sym, ap, ap₂, _∙_, subst}
 use mathlib.Core.Bool.{Bool, true, false, cond, true≢false, _||_}
 use Prim.Native.Nat.{ℕ, _+_, _-_, _*_, _≤_, _<_}
@@ -22,7 +22,8 @@ use Rattle.answers.specs.Answers.{passed, marked}
 use Rattle.answers.specs.declared.Answer.{Answer}
 use Rattle.grid.specs.TableLaws.{row-end}
 use Rattle.sweep.specs.Sweep.{valueAt}
-use Rattle.values.specs.Values.{factors, factorsBad, normStep, normSq, divideStep, divided, normalStep, normalised, allBad}
+use Rattle.marks.specs.Marks.{factors, factorsBad, allBad}
+use Rattle.values.specs.Values.{normStep, normSq, divideStep, divided, normalStep, normalised}
 use Rattle.jacobi.specs.Jacobi.{sweeps, finished, jacobi}
 use Rattle.gain.specs.Scale.{isZero, Scaled}
 use Rattle.gain.specs.Compare.{lt-scaled, zero-scaled}

@@ -8,6 +8,7 @@ ghost use Rattle.block.specs.Reading.{dimensions, headAnswer, entryAnswe
 use answers::Answer;
 use answers::least;
 use answers::refused;
+use grid::LARGEST;
 use octets::number;
 
 // ---- what reader and writer share
@@ -27,10 +28,10 @@ pub fn size(rows: usize, columns: usize, kind: usize) -> usize
 pub fn dimensions(rows: usize, columns: usize, count: usize) -> usize
     ensures { λ r. ⌜ r ≡ dimensions rows columns count ⌝ }
 {
-    if 256 < rows {
+    if LARGEST < rows {
         return 22;
     }
-    if 256 < columns {
+    if LARGEST < columns {
         return 22;
     }
     if 3 < count {

@@ -9,7 +9,7 @@ use Rattle.block.specs.Content.{Part, size, heads, entriesBytes, numbersBytes, 
 use Rattle.block.specs.Reading.{good, dimensions, headAnswer, entryAnswer, ended, entries, behind, answerOf, partsAt, reading}
 use Rattle.blockread.specs.Held.{placeIn}
 use Rattle.blockread.specs.Lookup.{spanOf, lookup}
-use Rattle.blockwrite.specs.Writing.{given, headsAnswer, checked, bytesOf, lengthWith, lengthOf}
+use Rattle.blockentries.specs.Writing.{given, headsAnswer, checked, bytesOf, lengthWith, lengthOf}
 
 -- one row and two columns: the value 1.0 and an inverse of a NaN with a payload and -0.0
 abbrev pub content : List Part

@@ -17,8 +17,8 @@ use Rattle.block.specs.Content.{Part, size, Parts, Content, heads, entriesBytes
 use Rattle.block.specs.Reading.{dimensions, headAnswer, entryAnswer, entries, behind, answerOf, partsAt, good, reading}
 use Rattle.block.specs.Reading as reads
 use Rattle.block.specs.CheckLaws.{size-most, or-else, dimensions-good, dimensions-pass, head-good, head-pass, entry-good, entry-pass, ended-good, ended-pass, Opened, opened, entries-within}
-use Rattle.blockwrite.specs.Writing.{given, headsAnswer, checked, bytesOf, written}
-use Rattle.blockwrite.specs.PutLaws.{counts, heads-length, entriesBytes-length, block-length, with-is}
+use Rattle.blockentries.specs.Writing.{given, headsAnswer, checked, bytesOf, written}
+use Rattle.blockentries.specs.PutLaws.{counts, heads-length, entriesBytes-length, block-length, with-is}
 use Rattle.blockcalls.specs.Sound.{IsBlock, Numbers}
 
 -- ---- what is read is what is written

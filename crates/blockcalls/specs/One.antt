@@ -12,7 +12,7 @@ use Rattle.blockread.specs.Lookup.{lookup, lookupAt, found, copied}
 use Rattle.blockread.specs.declared.Block.{Block}
 use Rattle.blockread.specs.declared.Shape.{Shape}
 use Rattle.blockread.specs.declared.Found.{Found}
-use Rattle.blockwrite.specs.Writing.{lengthOf, written}
+use Rattle.blockentries.specs.Writing.{lengthOf, written}
 
 -- of any promise that is one equation
 pub one-outcome : {A : Type 0} (x o p : A) → o ≡ x → p ≡ x → o ≡ p

@@ -6,10 +6,10 @@ use lib.Ieee.{Float, neg}
 use lib.ListN.{length}
 use Rattle.grid.specs.Real.{Vec, zero64}
 use Rattle.leaves.specs.Finite.{Finite}
-use Rattle.answers.specs.Answers.{toleranceGood}
 use Rattle.answers.specs.Early.{Early, EarlyOr11}
 use Rattle.answers.specs.Index.{AtMark}
 use Rattle.answers.specs.declared.Answer.{Answer}
+use Rattle.checks.specs.Checks.{toleranceGood}
 use Rattle.solution.specs.Solution.{solution}
 use Rattle.inverse.specs.Inverse.{inverted}
 use Rattle.solve.specs.Solve.{solve, pseudoInverse}

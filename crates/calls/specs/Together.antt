@@ -14,10 +14,11 @@ use Rattle.leaves.specs.ScanLaws.{orElse, behind, firstBad-none, firstBad-fine,
 use Rattle.leaves.specs.Finite.{Finite}
 use Rattle.leaves.specs.declared.Bad.{Bad}
 use Rattle.leaves.specs.declared.Bad.the-variants.{At, Nowhere}
-use Rattle.answers.specs.Answers.{answered, done, refused, emptied, marked, toleranceGood, lengths, fitting, unlessBad, least, present, decompositionLength}
+use Rattle.answers.specs.Answers.{answered, done, refused, emptied, marked, unlessBad, least, present, decompositionLength}
 use Rattle.answers.specs.OutcomeLaws.{present-is}
-use Rattle.answers.specs.ToleranceLaws.{fitting-11, fitting-lengths}
 use Rattle.answers.specs.declared.Answer.{Answer}
+use Rattle.checks.specs.Checks.{toleranceGood, lengths, fitting}
+use Rattle.checks.specs.ToleranceLaws.{fitting-11, fitting-lengths}
 use Rattle.plain.specs.Exact.{Outcome, Promised, Taken}
 use Rattle.plain.specs.ExactLaws.{taken-of}
 use Rattle.plain.specs.Out.{svd-long, svd-finite-out}

@@ -1,4 +1,5 @@
--- What four columns turned together are: four turns of document 000's, one behind the other. Definitions only.
+-- What four columns turned together are: four turns of document 000's, one behind the other. Laws only.
+-- `dots` and `fourTurns` are what the code does on the way; no public promise cites them.
 use Prim.Native.Nat.{ℕ, _+_}
 use Rattle.grid.specs.Real.{Vec}
 use Rattle.tred.specs.Tred.{dot, turnStep}

@@ -6,8 +6,9 @@ use Prim.Native.Nat.{ℕ, _*_, _≤_}
 use native.Mathlib.Omega.{arith}
 use borrow.Author.Tests.{ltb-false}
 use lib.Dec.{ltb}
-use Rattle.answers.specs.Answers.{refused, lengths}
-use Rattle.answers.specs.OutcomeLaws.{lengths-right, lengths-few}
+use Rattle.answers.specs.Answers.{refused}
+use Rattle.checks.specs.Checks.{lengths}
+use Rattle.checks.specs.ChecksLaws.{lengths-right, lengths-few}
 use Rattle.covariance.specs.Covariance.{covChecks}
 
 -- the sizes are right

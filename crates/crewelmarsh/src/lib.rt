@@ -11,7 +11,7 @@ ghost use Rattle.solve.specs.Solve.{solve, pseudoInverse};
 ghost use Rattle.qr.specs.Qr.{qrQ};
 ghost use Rattle.blockread.specs.Held.{shapeOf};
 ghost use Rattle.blockread.specs.Lookup.{found, copied};
-ghost use Rattle.blockwrite.specs.Writing.{given, doubles, lengthOf, written};
+ghost use Rattle.blockentries.specs.Writing.{given, doubles, lengthOf, written};
 ghost use Rattle.covariance.specs.Covariance.{covariance};
 ghost use Rattle.ownermap.specs.Owners.{setUp2, reset, putFor, lengthFor, fetchFor, dropFor};
 ghost use Rattle.figures.specs.Tallies.{outcome};

@@ -5,23 +5,15 @@ use Prim.Native.Nat.{ℕ, _+_, _*_}
 use lib.Dec.{ltb, eqb}
 use lib.ListN.{length}
 use Rattle.grid.specs.Real.{Vec, zeros}
-use Rattle.leaves.specs.Scan.{isBad, firstBad, byRows, firstBadLower}
-use Rattle.leaves.specs.declared.Bad.{Bad}
-use Rattle.answers.specs.Answers.{done, refused, passed, limitGood, fittingEdition, refusal7, marked}
+use Rattle.leaves.specs.Scan.{firstBadLower}
+use Rattle.answers.specs.Answers.{done, refused, passed, refusal7}
 use Rattle.answers.specs.declared.Answer.{Answer}
+use Rattle.checks.specs.Checks.{limitGood, fittingEdition}
 use Rattle.layout.specs.Layout.{columns, rows}
 use Rattle.tred.specs.Tred.{tred2}
-use Rattle.ql.specs.Ql.{tql2}
+use Rattle.aftertred.specs.AfterTred.{afterTred}
 
 -- ---- the run: v, d and e as they are lent, and afterwards the answer, v, d and e
-
--- mark 0 looks at d, then at e, then at v row by row: the first number that is not finite
-unfoldable pub mark0 : ℕ → Vec → Vec → Vec → Bad
-mark0 n v d e = firstBad (d ++ e ++ byRows n v)
-
--- after tred2: mark 0, or tql2
-unfoldable pub afterTred : ℕ → ℕ → ℕ → Vec × Vec × Vec → Answer × Vec × Vec × Vec
-afterTred n limit edition (v, d, e) = cond (isBad (mark0 n v d e)) (marked 0 0 (mark0 n v d e), v, d, e) (tql2 n limit edition (v, d, e))
 
 unfoldable pub decomposed : ℕ → ℕ → ℕ → Vec → Vec × Vec × Vec → Answer × Vec × Vec × Vec
 decomposed n limit edition a (v, d, e) = afterTred n limit edition (tred2 n (columns n a v, d, e))

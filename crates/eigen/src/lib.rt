@@ -4,58 +4,22 @@ ghost use Prim.Native.Nat.{_+_, _*_, _<_, _≤_};
 ghost use lib.ListN.{length};
 ghost use Rattle.grid.specs.Real.{zeros};
 ghost use Rattle.grid.specs.CellLaws.{Sized};
-ghost use Rattle.eigen.specs.Eigen.{mark0, afterTred, decomposed, given, entered, eigen};
+ghost use Rattle.eigen.specs.Eigen.{decomposed, given, entered, eigen};
 ghost use Rattle.eigen.specs.Lent.{outward};
+use aftertred::after_tred;
 use answers::Answer;
 use answers::done;
-use answers::fitting_edition;
-use answers::limit_good;
-use answers::marked;
 use answers::refusal7;
 use answers::refused;
+use checks::fitting_edition;
+use checks::limit_good;
 use grid::LARGEST;
 use grid::fill;
 use handed::give;
 use layout::columns;
 use layout::rows;
-use leaves::Bad;
-use leaves::is_bad;
-use pass::mark1;
-use ql::tql2;
-use scan::behind;
-use scan::first_bad_cell;
 use scan::first_bad_lower;
 use tred2::tred2;
-
-// Mark 0.
-pub fn mark0(n: usize, v: &[f64], d: &[f64], e: &[f64]) -> Bad
-    ensures { λ r. ⌜ r ≡ mark0 n (now (v .entry)) (now (d .entry)) (now (e .entry)) ⌝ }
-{
-    let b = mark1(d, e);
-    if is_bad(b) {
-        return b;
-    }
-    behind(d.len() + e.len(), first_bad_cell(n, v))
-}
-
-// The run after `tred2`.
-pub fn after_tred(
-    n: usize,
-    limit: usize,
-    edition: usize,
-    v: &mut [f64],
-    d: &mut [f64],
-    e: &mut [f64],
-) -> Answer
-    requires { ⌜ (0 < n) × (n ≤ 256) × (limit ≤ 60) × Sized n (now v) (now d) (now e) ⌝ }
-    ensures { λ r. ⌜ (r, now (v .exit), now (d .exit), now (e .exit)) ≡ afterTred n limit edition (now (v .entry), now (d .entry), now (e .entry)) ⌝ }
-{
-    let b = mark0(n, v, d, e);
-    if is_bad(b) {
-        return marked(0, 0, b);
-    }
-    tql2(n, limit, edition, v, d, e)
-}
 
 // The run.
 fn decompose(

@@ -11,7 +11,7 @@ use lib.Dec.{ltb}
 use lib.IntN.{ℤ, pos, negsuc, natAbs, negℤ, subℕ, _+ℤ_, _-ℤ_, _*ℤ_}
 use Rattle.grid.specs.Loop.{upto}
 use Rattle.grid.specs.LoopLaws.{upto-none, upto-more}
-use Rattle.covariance.specs.Covariance.{band, whole}
+use Rattle.bands.specs.Bands.{band, whole}
 use Rattle.sums.specs.Sums.{sampleAt, total, products}
 
 -- one turn more of a loop from 0

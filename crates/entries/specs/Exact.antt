@@ -9,8 +9,8 @@ use lib.Ieee.{Float}
 use lib.Ieee.Exact.{HasValue}
 use Rattle.answers.specs.Early.{Early}
 use Rattle.answers.specs.declared.Answer.{Answer}
-use Rattle.covariance.specs.Covariance.{whole, cellAt}
-use Rattle.sums.specs.Sums.{over}
+use Rattle.bands.specs.Bands.{whole, cellAt}
+use Rattle.wholes.specs.Over.{over}
 
 -- the float x is finite and is z, sign and magnitude
 abbrev pub Stands : Float → ℤ → Type 0

@@ -20,11 +20,13 @@ use Rattle.leaves.specs.Leaf.{isFinite}
 use Rattle.leaves.specs.Finite.{Finite}
 use Rattle.answers.specs.Answers.{done, refused, passed, emptied}
 use Rattle.answers.specs.declared.Answer.{Answer}
-use Rattle.covariance.specs.Covariance.{whole, cellAt, firstOver, matrixOf, computed, covChecks, covariance}
-use Rattle.sums.specs.Sums.{over}
+use Rattle.bands.specs.Bands.{whole, cellAt}
+use Rattle.bands.specs.Bands.{firstOver, matrixOf, computed}
+use Rattle.covariance.specs.Covariance.{covChecks, covariance}
+use Rattle.wholes.specs.Over.{over}
 use Rattle.entries.specs.Exact.{Stands, Exactly, FirstOver}
 use Rattle.covariance.specs.Checked.{Sizes, checked, few}
-use Rattle.covariance.specs.Swap.{whole-swap, cell-is}
+use Rattle.bands.specs.Swap.{whole-swap, cell-is}
 
 -- ---- the first entry over 2^53, and none before it
 

@@ -10,11 +10,14 @@ use lib.Dec.{ltb, eqb}
 use lib.IntN.{ℤ}
 use lib.ListN.{length}
 use Rattle.grid.specs.Real.{Vec, zeros}
-use Rattle.answers.specs.Answers.{refused, done, passed, lengths, emptied}
+use Rattle.answers.specs.Answers.{refused, done, passed, emptied}
 use Rattle.answers.specs.Early.{Early}
-use Rattle.answers.specs.IndexLaws.{lengths-index, refuse-index}
+use Rattle.answers.specs.IndexLaws.{refuse-index}
 use Rattle.answers.specs.declared.Answer.{Answer}
-use Rattle.covariance.specs.Covariance.{firstOver, matrixOf, computed, covChecks, covariance}
+use Rattle.checks.specs.Checks.{lengths}
+use Rattle.checks.specs.ChecksLaws.{lengths-index}
+use Rattle.bands.specs.Bands.{firstOver, matrixOf, computed}
+use Rattle.covariance.specs.Covariance.{covChecks, covariance}
 use Rattle.entries.specs.Exact.{Untouched}
 use Rattle.covariance.specs.Checked.{numbers}
 

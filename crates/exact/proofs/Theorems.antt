@@ -19,7 +19,8 @@ use Rattle.answers.specs.declared.Answer.{Answer}
 use Rattle.tred.specs.Tred.{tred2}
 use Rattle.tred.specs.Lower.{lower}
 use Rattle.layout.specs.Layout.{columns}
-use Rattle.eigen.specs.Eigen.{afterTred, decomposed, cleared, given, entered, eigen}
+use Rattle.aftertred.specs.AfterTred.{afterTred}
+use Rattle.eigen.specs.Eigen.{decomposed, cleared, given, entered, eigen}
 use Rattle.exact.specs.Copies.{columns-cell, columns-long}
 use Rattle.exact.specs.Document.{SymmetricEigen}
 use Rattle.exact.specs.DocumentLaws.{symmetric-eigen-once}

@@ -6,8 +6,9 @@ use Prim.Native.Nat.{ℕ, _+_, _*_, _≤_}
 use borrow.Author.Tests.{le-ltb, le-leb}
 use lib.ListN.{length}
 use Rattle.grid.specs.Real.{Vec}
-use Rattle.answers.specs.Answers.{refused, limitGood, editionGood}
-use Rattle.answers.specs.EditionLaws.{edition-right, edition-12}
+use Rattle.answers.specs.Answers.{refused}
+use Rattle.checks.specs.Checks.{limitGood, editionGood}
+use Rattle.checks.specs.EditionLaws.{edition-right, edition-12}
 use Rattle.eigen.specs.Eigen.{eigen}
 
 other : (edition : ℕ) → (edition ≡ 1 → ⊥) → (edition ≡ 2 → ⊥) → editionGood edition ≡ false

@@ -15,10 +15,11 @@ use Rattle.leaves.specs.ScanLaws.{firstBad-none, scan-first}
 use Rattle.leaves.specs.FiniteLaws.{both-finite, finite-both, cells-finite, finite-rows, none-lower}
 use Rattle.leaves.specs.declared.Bad.{Bad}
 use Rattle.leaves.specs.declared.Bad.the-variants.{At, Nowhere}
-use Rattle.answers.specs.Answers.{answered, done, passed, limitGood, lengths, marked}
-use Rattle.answers.specs.EditionLaws.{right-edition, edition-lengths}
+use Rattle.answers.specs.Answers.{answered, done, passed, marked}
 use Rattle.answers.specs.Index.{Class}
 use Rattle.answers.specs.declared.Answer.{Answer}
+use Rattle.checks.specs.Checks.{limitGood, lengths}
+use Rattle.checks.specs.EditionLaws.{right-edition, edition-lengths}
 use Rattle.tred.specs.Sizes.{tred2-square, tred2-diagonal, tred2-beside}
 use Rattle.sort.specs.Sort.{sorted}
 use Rattle.ql.specs.Ql.{tql2}
@@ -27,7 +28,8 @@ use Rattle.told.specs.Long.{tql2-square}
 use Rattle.told.specs.Told.{FirstIn, list1, list2, bad, used, Turned, Ran, Whole, Told, well, at-mark2, at-mark1, at-limit}
 use Rattle.told.specs.ToldLaws.{first-class, class-above, none-first, one-first, mark1-sees, told-once, ran-document}
 use Rattle.told.specs.Marks.{told}
-use Rattle.eigen.specs.Eigen.{mark0, afterTred, decomposed, cleared, given, entered, eigen}
+use Rattle.aftertred.specs.AfterTred.{mark0, afterTred}
+use Rattle.eigen.specs.Eigen.{decomposed, cleared, given, entered, eigen}
 use Rattle.layout.specs.Layout.{rows}
 use Rattle.exact.specs.Exact.{Outcome, Fit, Taken, reduced, list0, Reduced, Reached, Done, empty, worked, Halted, Broken0, Broken2, Says, nothing, at-mark0, runs, finishedWith, Some}
 use Rattle.exact.specs.Document as Doc

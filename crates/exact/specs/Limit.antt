@@ -7,11 +7,14 @@ use lib.Dec.{ltb, eqb}
 use lib.ListN.{length}
 use Rattle.grid.specs.Real.{Vec}
 use Rattle.leaves.specs.Scan.{isBad, firstBadLower}
-use Rattle.answers.specs.Answers.{passed, limitGood, fittingEdition, refusal7}
-use Rattle.answers.specs.OutcomeLaws.{right-limit, Settled, always, by-test}
+use Rattle.answers.specs.Answers.{passed, refusal7}
+use Rattle.answers.specs.OutcomeLaws.{Settled, always, by-test}
 use Rattle.answers.specs.declared.Answer.{Answer}
+use Rattle.checks.specs.Checks.{limitGood, fittingEdition}
+use Rattle.checks.specs.ChecksLaws.{right-limit}
 use Rattle.told.specs.Limit.{tql2-limit}
-use Rattle.eigen.specs.Eigen.{mark0, afterTred, decomposed, given, entered, eigen}
+use Rattle.aftertred.specs.AfterTred.{mark0, afterTred}
+use Rattle.eigen.specs.Eigen.{decomposed, given, entered, eigen}
 use Rattle.exact.specs.Exact.{Outcome}
 use Rattle.exact.specs.ExactLaws.{given-answer}
 

@@ -7,11 +7,12 @@ use native.Mathlib.Omega.{arith}
 use lib.Dec.{ltb}
 use lib.ListN.{length}
 use Rattle.grid.specs.Real.{Vec}
-use Rattle.answers.specs.Answers.{refused, passed, limitGood, fittingEdition}
+use Rattle.answers.specs.Answers.{refused, passed}
 use Rattle.answers.specs.Early.{EarlyOr12}
-use Rattle.answers.specs.EditionLaws.{edition-checked}
 use Rattle.answers.specs.OutcomeLaws.{old-kept}
 use Rattle.answers.specs.declared.Answer.{Answer}
+use Rattle.checks.specs.Checks.{limitGood, fittingEdition}
+use Rattle.checks.specs.EditionLaws.{edition-checked}
 use Rattle.eigen.specs.Eigen.{entered, eigen}
 use Rattle.exact.specs.Exact.{Outcome}
 

@@ -19,11 +19,13 @@ use Rattle.leaves.specs.Leaf.{isFinite}
 use Rattle.leaves.specs.Compare.{le-of-not}
 use Rattle.leaves.specs.Scan.{firstBadLower}
 use Rattle.leaves.specs.FiniteLaws.{lower-finite}
-use Rattle.answers.specs.Answers.{refused, done, passed, limitGood, fittingEdition, refusal7}
-use Rattle.answers.specs.EditionLaws.{Checked12, edition-checked, fitting-edition-right}
-use Rattle.answers.specs.OutcomeLaws.{limit-right, none-seven}
+use Rattle.answers.specs.Answers.{refused, done, passed, refusal7}
+use Rattle.answers.specs.OutcomeLaws.{none-seven}
 use Rattle.answers.specs.IndexLaws.{refusal7-index, refusal7-most}
 use Rattle.answers.specs.declared.Answer.{Answer}
+use Rattle.checks.specs.Checks.{limitGood, fittingEdition}
+use Rattle.checks.specs.EditionLaws.{Checked12, edition-checked, fitting-edition-right}
+use Rattle.checks.specs.ChecksLaws.{limit-right}
 use Rattle.sort.specs.Sort.{sorted}
 use Rattle.told.specs.Document.{Carried, begun}
 use Rattle.told.specs.Long.{ran-long}

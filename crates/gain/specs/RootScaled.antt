@@ -1,5 +1,5 @@
--- The root of a number times 4 ^ k is 2 ^ k times its root, in the normal range. `root` rounds the middle of a stretch that holds the root, so this goes by the whole root: its
--- digits past the last that counts don't matter. Laws only.
+-- The root of a number times 4 ^ k is 2 ^ k times its root, in the normal range. Laws only.
+-- `root` rounds the middle of a stretch that holds the root, so this goes by the whole root: its digits past the last that counts don't matter.
 use mathlib.Core.Path.{_≡_, refl, sym, ap, ap₂, _∙_, subst}
 use mathlib.Core.Bool.{Bool, true, false, not, cond, _&&_, true≢false}
 use Prim.Native.Nat.{ℕ, zero, suc, _+_, _-_, _*_, _/_, _%_, _^_, _≤_, _<_}

@@ -1,5 +1,6 @@
--- `round` and a power of two, in binary64: where the rounded value is in the normal range, or the fraction is exactly zero, 2 ^ t times the fraction rounds to 2 ^ t times
--- the value. And a fraction of one unit or more does not round to zero. Laws only.
+-- `round` and a power of two, in binary64. Laws only.
+-- Where the rounded value is in the normal range, or the fraction is exactly zero, 2 ^ t times the fraction rounds to 2 ^ t times the value. And a fraction of one unit or more
+-- does not round to zero.
 use mathlib.Core.Path.{_≡_, refl, sym, ap, _∙_, subst}
 use mathlib.Core.Bool.{Bool, true, false, cond, _||_, true≢false}
 use Prim.Native.Nat.{ℕ, zero, suc, _+_, _-_, _*_, _/_, _%_, _^_, _≤_, _<_, compare}

@@ -11,9 +11,11 @@ use Rattle.grid.specs.Table.{table}
 use Rattle.root.specs.Root.{whole, rootOf, root}
 use Rattle.leaves.specs.Leaf.{magnitude, isFinite}
 use Rattle.leaves.specs.Scan.{classOf, scan, placeOf, byRows}
-use Rattle.answers.specs.Answers.{limitGood, lengths, least, present, decompositionLength}
+use Rattle.answers.specs.Answers.{least, present, decompositionLength}
+use Rattle.checks.specs.Checks.{limitGood, lengths}
 use Rattle.sweep.specs.Sweep.{gram, skipped, rotationOf, turned, pairDone, pairsOf, sweep}
-use Rattle.values.specs.Values.{factorsBad, normSq, divided, normalStep, normalised, allBad}
+use Rattle.marks.specs.Marks.{factorsBad, allBad}
+use Rattle.values.specs.Values.{normSq, divided, normalStep, normalised}
 use Rattle.jacobi.specs.Jacobi.{verdict, swept, sweeps, finished, jacobi}
 use Rattle.order.specs.Order.{rank, noted, order}
 use Rattle.sorted.specs.Result.{longest, workLength, columnOut, factorOut, sortedOut}

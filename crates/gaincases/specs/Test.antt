@@ -1,5 +1,5 @@
--- What `gain-keeps-basis` asks of a run, as a test that can be computed: each number is ok, and no product of nonzero numbers is zero, unless that is let pass (lost). With `fine`
--- and false it is what the theorem asks. Definitions only.
+-- What `gain-keeps-basis` asks of a run, as a test that can be computed. Definitions only.
+-- Each number is ok, and no product of nonzero numbers is zero, unless that is let pass (lost). With `fine` and false it is what the theorem asks.
 use mathlib.Core.Bool.{Bool, true, false, not, _&&_, _||_}
 use Prim.Native.Nat.{ℕ, zero, suc, _+_, _-_}
 use lib.Ieee.{Float, eq}

@@ -5,7 +5,7 @@ use mathlib.Core.Bool.{cond}
 use lib.Dec.{eqb}
 use lib.Ieee.{Float}
 use Rattle.leaves.specs.Leaf.{hypot}
-use Rattle.hypot2.specs.Hypot2.{hypot2}
+use Rattle.nearest.specs.Hypot2.{hypot2}
 
 unfoldable pub pythag : ℕ → Float → Float → Float
 pythag edition x y = cond (eqb edition 1) (hypot x y) (hypot2 x y)

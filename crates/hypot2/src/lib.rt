@@ -6,15 +6,16 @@ ghost use lib.Dec.{T};
 ghost use lib.Ieee.{binary64, toBits, ofBits};
 ghost use lib.Ieee.Scale.{finite};
 ghost use Rattle.leaves.specs.Leaf.{magnitude};
-ghost use Rattle.hypot2.specs.Hypot2.{rootOf, hypot2};
+ghost use Rattle.rounding.specs.Parts.{low, val};
+ghost use Rattle.nearest.specs.Hypot2.{rootOf, hypot2};
+ghost use Rattle.nearest.specs.NearestEven.{NearestEven};
 ghost use Rattle.hypot2.specs.Edition.{pythag};
-ghost use Rattle.hypot2.specs.Parts.{low, val, digit, packed, rounded};
-ghost use Rattle.hypot2.specs.NearestEven.{NearestEven};
 use leaves::hypot;
 use leaves::magnitude;
 use root::Found;
 use root::digits;
 use root::not_a_number;
+use rounding::rounded;
 
 // hi * 2^56 + lo
 struct Wide {
@@ -90,39 +91,6 @@ fn whole_root(hi: u64, lo: u64) -> Found
     digits(w.s, w.r, lo * 64, 28)
 }
 
-// What is added before the last digit of s is dropped: 1 where more follows s, else, for a tie, the digit that makes the result even.
-fn digit(s: u64, t: u64) -> u64
-    ensures { λ r. ⌜ r ≡ digit s t ⌝ }
-{
-    if t == 0 {
-        return s / 2 % 2;
-    }
-    1
-}
-
-// The pattern of s / 2 * 2^k units, rounded, for an s of 54 digits at most. Where t is not zero, more follows s.
-fn packed(k: u64, s: u64, t: u64) -> u64
-    requires { ⌜ (k < 2 ^ 11) × (s < 2 ^ 54) ⌝ }
-    ensures { λ r. ⌜ r ≡ packed k s t ⌝ }
-{
-    let b = k * 0x10_0000_0000_0000 + (s + digit(s, t)) / 2;
-    if b < 0x7ff0_0000_0000_0000 {
-        return b;
-    }
-    0x7ff0_0000_0000_0000
-}
-
-// The same for an s of 55 digits at most.
-fn rounded(k: u64, s: u64, t: u64) -> u64
-    requires { ⌜ (k + 1 < 2 ^ 11) × (s < 2 ^ 55) × (t < 2 ^ 63) ⌝ }
-    ensures { λ r. ⌜ r ≡ rounded k s t ⌝ }
-{
-    if s < 0x40_0000_0000_0000 {
-        return packed(k, s, t);
-    }
-    packed(k + 1, s / 2, t + s % 2)
-}
-
 // The pattern of the root of the sum of two squares, by the patterns of the two numbers, the greater first.
 fn length(a: u64, b: u64) -> u64
     requires { ⌜ (b ≤ a) × (a < 0x7ff0_0000_0000_0000) ⌝ }
@@ -143,7 +111,7 @@ fn length(a: u64, b: u64) -> u64
 }
 
 // The `f64` that is nearest to the root of x * x + y * y. An infinity gives an infinity, also beside a NaN.
-pub fn hypot2(x: f64, y: f64) -> f64
+fn hypot2(x: f64, y: f64) -> f64
     ensures value { λ r. ⌜ r ≡ hypot2 x y ⌝ }
     ensures nearest { λ r. ⌜ (T (finite x) → T (finite y) → NearestEven x y r) ⌝ }
 {

@@ -9,7 +9,8 @@ use Rattle.leaves.specs.declared.Bad.{Bad}
 use Rattle.answers.specs.Answers.{answered, done, passed, marked}
 use Rattle.answers.specs.declared.Answer.{Answer}
 use Rattle.sweep.specs.Sweep.{sweep}
-use Rattle.values.specs.Values.{factorsBad, normalised, allBad}
+use Rattle.marks.specs.Marks.{factorsBad, allBad}
+use Rattle.values.specs.Values.{normalised}
 
 -- the run goes on after so many sweeps; where the limit leaves no other, this is refusal 9
 abbrev pub going : ℕ → Answer

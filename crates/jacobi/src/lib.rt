@@ -9,9 +9,9 @@ use answers::done;
 use answers::marked;
 use leaves::Bad;
 use leaves::is_bad;
+use marks::all_bad;
+use marks::factors_bad;
 use sweep::sweep;
-use values::all_bad;
-use values::factors_bad;
 use values::normalise;
 
 // The run goes on after so many sweeps; where the limit leaves no other, this is refusal 9.

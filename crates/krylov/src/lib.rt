@@ -3,7 +3,7 @@ ghost use mathlib.Core.Path.{_≡_};
 ghost use mathlib.Core.Bool.{true};
 ghost use Prim.Native.Nat.{_+_, _*_, _<_, _≤_};
 ghost use lib.ListN.{length};
-ghost use Rattle.symmetric.specs.Sides.{Mirror};
+ghost use Rattle.symmetric.specs.Symmetry.{Mirror};
 ghost use Rattle.krylov.specs.Krylov.{recurred, kept, step, turn, steps};
 use answers::answered;
 use answers::done;

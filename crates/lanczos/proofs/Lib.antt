@@ -1,3 +1,2 @@
--- Lemmas of the proofs: what the run is lent, what the checks leave.
+-- Lemmas of the proofs: what the run is lent.
 mod Sizes
-mod Checked

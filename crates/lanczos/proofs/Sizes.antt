@@ -10,10 +10,12 @@ use Rattle.leaves.specs.Scan.{firstBad}
 use Rattle.leaves.specs.declared.Bad.{Bad}
 use Rattle.answers.specs.Answers.{refusal7}
 use Rattle.answers.specs.declared.Answer.{Answer}
-use Rattle.lanczosrun.specs.Fits.{Fit}
-use Rattle.lanczosrun.specs.Run.{size, ran}
-use Rattle.lanczosrun.specs.Sizes.{sized}
-use Rattle.lanczos.specs.Lanczos.{workLength, entered}
+use Rattle.lanczoschecks.specs.Fits.{Fit}
+use Rattle.lanczoschecks.specs.Checks.{size}
+use Rattle.lanczosrun.specs.Run.{ran}
+use Rattle.lanczoschecks.specs.Sizes.{sized}
+use Rattle.lanczoschecks.specs.Checks.{workLength}
+use Rattle.lanczos.specs.Lanczos.{entered}
 
 pub enough : (n k len : ℕ) → Fit n k → len ≡ workLength n k → size n k * n + size n k * size n k ≤ len
 unfolding workLength

@@ -4,68 +4,18 @@ ghost use mathlib.Core.List.{_++_};
 ghost use Prim.Native.Nat.{_+_, _*_, _≤_};
 ghost use lib.ListN.{length};
 ghost use Rattle.leaves.specs.Scan.{firstBad};
-ghost use Rattle.lanczosrun.specs.Fits.{Called, Fit};
-ghost use Rattle.lanczos.specs.Lanczos.{workLength, checks, entered, lanczos};
+ghost use Rattle.lanczoschecks.specs.Fits.{Called, Fit};
+ghost use Rattle.lanczoschecks.specs.Checks.{workLength};
+ghost use Rattle.lanczos.specs.Lanczos.{entered, lanczos};
 use answers::Answer;
-use answers::done;
-use answers::edition_good;
-use answers::lengths;
-use answers::limit_good;
 use answers::refusal7;
-use answers::refused;
-use grid::LARGEST;
 use grid::fill;
+use lanczoschecks::checks;
 use lanczosrun::run;
-use lanczosrun::size;
 use leaves::Bad;
 use leaves::is_bad;
 use scan::behind;
 use scan::first_bad;
-
-fn work_length(n: usize, k: usize) -> usize
-    requires { ⌜ (n ≤ 256) × (k ≤ 256) ⌝ }
-    ensures { λ r. ⌜ r ≡ workLength n k ⌝ }
-{
-    let s = size(n, k);
-    s * n + 2 * n + 2 * s * s + 4 * s
-}
-
-fn checks(
-    n: usize,
-    k: usize,
-    limit: usize,
-    edition: usize,
-    a: usize,
-    b: usize,
-    work: usize,
-    x: usize,
-) -> Answer
-    ensures { λ r. ⌜ r ≡ checks n k limit edition a b work x ⌝ }
-{
-    if n > LARGEST {
-        return refused(1, 0);
-    }
-    if !limit_good(limit) {
-        return refused(2, 0);
-    }
-    if !edition_good(edition) {
-        return refused(12, 0);
-    }
-    if n == 0 {
-        return refused(14, 0);
-    }
-    if k > n {
-        return refused(15, 0);
-    }
-    let first = lengths(a, n * n, b, n, work, work_length(n, k));
-    if first.answer != 0 {
-        return first;
-    }
-    if x != k + k * n {
-        return refused(6, 3);
-    }
-    done(0)
-}
 
 // The first number that is not finite in the matrix, or else in the start vector, counted on behind the matrix.
 fn scan(a: &[f64], b: &[f64]) -> Bad

@@ -10,15 +10,18 @@ use Rattle.grid.specs.Real.{Vec, zeros}
 use Rattle.leaves.specs.Leaf.{isFinite}
 use Rattle.leaves.specs.Scan.{firstBad}
 use Rattle.answers.specs.Answers.{passed, refusal7}
-use Rattle.answers.specs.OutcomeLaws.{right-limit, Settled, always, by-test}
+use Rattle.answers.specs.OutcomeLaws.{Settled, always, by-test}
 use Rattle.answers.specs.declared.Answer.{Answer}
+use Rattle.checks.specs.ChecksLaws.{right-limit}
 use Rattle.exact.specs.Limit.{eigen-limit}
 use Rattle.gram.specs.Gram.{norm}
 use Rattle.krylov.specs.Krylov.{State}
 use Rattle.leading.specs.Leading.{selected}
-use Rattle.tridiagonal.specs.Tridiagonal.{tri, inward}
+use Rattle.tri.specs.Tri.{tri}
+use Rattle.tridiagonal.specs.Tridiagonal.{inward}
 use Rattle.lanczosrun.specs.Run.{none, paired, solved, ran}
-use Rattle.lanczos.specs.Lanczos.{checks, entered, lanczos}
+use Rattle.lanczoschecks.specs.Checks.{checks}
+use Rattle.lanczos.specs.Lanczos.{entered, lanczos}
 use Rattle.lanczoscalls.specs.Early.{Outcome, Promised}
 
 abbrev answer2 : Answer × Vec → ℕ

@@ -7,10 +7,13 @@ use native.Mathlib.Omega.{arith}
 use lib.Dec.{ltb, eqb}
 use lib.ListN.{length}
 use Rattle.grid.specs.Real.{Vec, zeros}
-use Rattle.answers.specs.Answers.{done, refused, passed, limitGood, editionGood, lengths}
-use Rattle.answers.specs.OutcomeLaws.{lengths-few, few-early, old-kept}
+use Rattle.answers.specs.Answers.{done, refused, passed}
+use Rattle.answers.specs.OutcomeLaws.{few-early, old-kept}
 use Rattle.answers.specs.declared.Answer.{Answer}
-use Rattle.lanczos.specs.Lanczos.{workLength, checks, entered, lanczos}
+use Rattle.checks.specs.Checks.{limitGood, editionGood, lengths}
+use Rattle.checks.specs.ChecksLaws.{lengths-few}
+use Rattle.lanczoschecks.specs.Checks.{workLength, checks}
+use Rattle.lanczos.specs.Lanczos.{entered, lanczos}
 use Rattle.lanczoscalls.specs.Early.{Untouched, Outcome, Promised}
 
 -- a check that refuses touches nothing

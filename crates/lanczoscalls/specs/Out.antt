@@ -22,7 +22,8 @@ use Rattle.gram.specs.Gram.{norm}
 use Rattle.krylov.specs.Krylov.{State}
 use Rattle.leading.specs.Leading.{looked, selected}
 use Rattle.lanczosrun.specs.Run.{none, paired, solved, ran}
-use Rattle.lanczos.specs.Lanczos.{checks, entered, lanczos}
+use Rattle.lanczoschecks.specs.Checks.{checks}
+use Rattle.lanczos.specs.Lanczos.{entered, lanczos}
 use Rattle.lanczoscalls.specs.Early.{Outcome, Promised}
 
 -- of an outcome of the run with k pairs wanted

@@ -16,9 +16,10 @@ use Rattle.eigen.specs.Lent.{zeros-take, zeros-drop}
 use Rattle.matvec.specs.Matvec.{replaced}
 use Rattle.krylov.specs.KrylovLaws.{Both}
 use Rattle.leading.specs.Leading.{selected}
-use Rattle.tridiagonal.specs.Tridiagonal.{tri, inward}
+use Rattle.tri.specs.Tri.{tri}
+use Rattle.tridiagonal.specs.Tridiagonal.{inward}
 use Rattle.tridiagonal.specs.Mirror.{innerOf, out, Fine, inward-is}
-use Rattle.lanczosrun.specs.Fits.{Called, Small}
+use Rattle.lanczoschecks.specs.Fits.{Called, Small}
 use Rattle.lanczosrun.specs.Run.{paired}
 
 -- ---- a part from f on, of k numbers, that has become ys

@@ -13,7 +13,7 @@ use Rattle.stepend.specs.declared.Went.{Went}
 use Rattle.krylov.specs.Krylov.{State, steps}
 use Rattle.krylov.specs.KrylovLaws.{Both, both-zeros, steps-fine, steps-few, steps-some}
 use Rattle.tridiagonal.specs.Tridiagonal.{inward}
-use Rattle.lanczosrun.specs.Fits.{Room, Small}
+use Rattle.lanczoschecks.specs.Fits.{Room, Small}
 use Rattle.lanczosrun.specs.Run.{paired, solved}
 use Rattle.lanczosrun.proofs.Parts.{front-zeros, front-is, part-zeros, front-length}
 

@@ -1,4 +1,2 @@
--- The Lanczos run from a start vector. Fits: what is asked within it. Sizes: laws.
+-- The Lanczos run from a start vector.
 pub mod Run
-pub mod Fits
-pub mod Sizes

@@ -5,17 +5,14 @@ use lib.ListN.{take, drop}
 use Rattle.grid.specs.Real.{Vec, zeros}
 use Rattle.leaves.specs.Leaf.{isFinite}
 use Rattle.leaves.specs.Scan.{classOf}
-use Rattle.answers.specs.Answers.{answered, passed, least}
+use Rattle.answers.specs.Answers.{answered, passed}
 use Rattle.answers.specs.declared.Answer.{Answer}
 use Rattle.gram.specs.Gram.{norm}
 use Rattle.startvec.specs.Start.{started}
 use Rattle.krylov.specs.Krylov.{State, steps}
 use Rattle.leading.specs.Leading.{selected}
 use Rattle.tridiagonal.specs.Tridiagonal.{inward}
-
--- s, how many steps at the most
-unfoldable pub size : ℕ → ℕ → ℕ
-size n k = least (2 * k + 20) n
+use Rattle.lanczoschecks.specs.Checks.{size}
 
 -- ---- the run, of an outcome (answer, answer array); k + k * n numbers are handed out
 

@@ -12,14 +12,15 @@ ghost use Rattle.krylov.specs.Krylov.{steps};
 ghost use Rattle.krylov.specs.KrylovLaws.{Both};
 ghost use Rattle.leading.specs.Leading.{selected};
 ghost use Rattle.tridiagonal.specs.Tridiagonal.{inward};
-ghost use Rattle.lanczosrun.specs.Fits.{Called, Fit, Room, Small};
-ghost use Rattle.lanczosrun.specs.Run.{size, paired, solved, ran};
+ghost use Rattle.lanczoschecks.specs.Fits.{Called, Fit, Room, Small};
+ghost use Rattle.lanczoschecks.specs.Checks.{size};
+ghost use Rattle.lanczosrun.specs.Run.{paired, solved, ran};
 use answers::Answer;
 use answers::answered;
-use answers::least;
 use gram::norm;
 use grid::LARGEST;
 use krylov::steps;
+use lanczoschecks::size;
 use leading::select;
 use leaves::class_of;
 use leaves::is_finite;
@@ -134,14 +135,6 @@ fn go(
     }
     let m = r.dim;
     solve_local(n, s, k, m, limit, edition, &al, &be, work, x)
-}
-
-// s, how many steps at the most.
-pub fn size(n: usize, k: usize) -> usize
-    requires { ⌜ k ≤ 256 ⌝ }
-    ensures { λ r. ⌜ r ≡ size n k ⌝ }
-{
-    least(2 * k + 20, n)
 }
 
 // From the start vector b, whose norm is `by`.

@@ -8,22 +8,15 @@ use Rattle.grid.specs.Real.{Vec, zeros}
 use Rattle.leaves.specs.Scan.{isBad}
 use Rattle.leaves.specs.declared.Bad.{Bad}
 use Rattle.answers.specs.declared.Answer.{Answer}
-use Rattle.tred.specs.Tred.{tred2}
 use Rattle.pass.specs.declared.Run.{Run}
-use Rattle.turns.specs.Turns.{State}
-use Rattle.ql.specs.Ql.{movedUp, finished}
-use Rattle.layout.specs.Layout.{columns}
-use Rattle.eigen.specs.Eigen.{mark0, given}
+use Rattle.turnends.specs.TurnEnds.{State}
+use Rattle.qlend.specs.QlEnd.{finished}
+use Rattle.eigen.specs.Eigen.{given}
+use Rattle.ready.specs.Readied.{readied}
 
 -- ---- where it begins
 
--- after tred2: what mark 0 saw, and e moved up where that is nothing; of v, d and e as they are lent
-unfoldable pub readied : ℕ → Vec → Vec × Vec × Vec → Bad × Vec × Vec × Vec
-readied n a (v, d, e) =
-    let (v, d, e) = tred2 n (columns n a v, d, e) in
-    cond (isBad (mark0 n v d e)) (mark0 n v d e, v, d, e) (mark0 n v d e, v, d, movedUp n e)
-
--- the same, with work and result
+-- made ready, with work and result
 unfoldable pub setting : ℕ → Vec → Bad × Vec × Vec
 setting n a =
     let (b, v, d, e) = readied n a (zeros (n * n), zeros n, zeros n) in

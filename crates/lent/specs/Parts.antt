@@ -13,18 +13,25 @@ use Rattle.leaves.specs.Scan.{isBad}
 use Rattle.leaves.specs.declared.Bad.{Bad}
 use Rattle.answers.specs.declared.Answer.{Answer}
 use Rattle.pass.specs.declared.Run.{Run}
-use Rattle.turns.specs.Turns.{State}
-use Rattle.ql.specs.Ql as Ql
+use Rattle.turnends.specs.TurnEnds.{State}
+use Rattle.qlend.specs.QlEnd as QlEnd
 use Rattle.handed.specs.Laid.{laid}
 use Rattle.eigen.specs.Lent.{outward, behind, behind-put, put-together, zeros-drop}
 use Rattle.machine.specs.Machine.{step}
-use Rattle.lent.specs.Lent.{readied, setting, stateOf, laidOut, closedUp}
+use Rattle.ready.specs.Readied.{readied}
+use Rattle.lent.specs.declared.Stand.{Stand}
+use Rattle.lent.specs.Lent.{setting, stateOf, laidOut, closedUp}
+
+-- ---- how a run stands, and what the last call gave
+
+abbrev pub stood : Run → Answer → Stand
+stood r x = record { run = r; answer = x }
 
 -- ---- what the code does with d in an array of its own
 
 -- of (run, v, d, e), to (answer, v, d, e), the vectors row by row where that is done
 unfoldable pub turnedOut : ℕ → State → Answer × Vec × Vec × Vec
-turnedOut n x = outward n (Ql.finished n x)
+turnedOut n x = outward n (QlEnd.finished n x)
 
 -- work and result, whose back holds v, after a start with d: where mark 0 saw something all is filled
 unfoldable pub setOut : Bad → Vec → Vec → Vec → Bad × Vec × Vec
@@ -80,5 +87,5 @@ module _ (n : ℕ) (R W D v d : Vec) (room : length R ≡ n + n * n) (lv : lengt
       → q ≡ laid x d W (putMid n (length R - n) R v) → q ≡ closedUp n r W R
   unfolding closedUp turnedOut
   closed-whole r x q c lw s g =
-      g ∙ put-together n (Ql.finished n (stateOf n r W R)) x v d W W (putMid n (length R - n) R v) ld lw whole-long back
-      (s W ∙ (λ i. outward n (Ql.finished n (r, behind n R fits-behind i, c i, W))))
+      g ∙ put-together n (QlEnd.finished n (stateOf n r W R)) x v d W W (putMid n (length R - n) R v) ld lw whole-long back
+      (s W ∙ (λ i. outward n (QlEnd.finished n (r, behind n R fits-behind i, c i, W))))

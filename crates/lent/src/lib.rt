@@ -4,44 +4,31 @@ ghost use mathlib.Core.Path.{_≡_};
 ghost use Prim.Native.Nat.{_+_, _*_, _<_, _≤_};
 ghost use lib.ListN.{length};
 ghost use Rattle.grid.specs.Real.{Vec, zeros};
-ghost use Rattle.grid.specs.CellLaws.{Sized};
 ghost use Rattle.machine.specs.Machine.{step};
 ghost use Rattle.runchecks.specs.CheckLaws.{Open};
-ghost use Rattle.lent.specs.Lent.{readied, setting, stateOf, laidOut, closedUp};
+ghost use Rattle.lent.specs.Lent.{setting, stateOf, laidOut, closedUp};
 ghost use Rattle.lent.specs.Parts.{setOut, turnedOut};
 use answers::Answer;
-use eigen::mark0;
 use grid::LARGEST;
 use grid::copy;
 use grid::fill;
 use handed::give;
 use handed::put_first;
-use layout::columns;
 use layout::rows;
 use leaves::Bad;
 use leaves::is_bad;
 use machine::advance;
 use pass::Run;
-use ql::finish;
-use ql::move_up;
-use tred2::tred2;
+use qlend::finish;
+use ready::prepare;
+
+// How a run stands, and what the last call gave.
+pub struct Stand {
+    pub run: Run,
+    pub answer: Answer,
+}
 
 // ---- a start
-
-// `tred2` and mark 0; e is moved up where that saw nothing.
-fn prepare(n: usize, a: &[f64], v: &mut [f64], d: &mut [f64], e: &mut [f64]) -> Bad
-    requires { ⌜ (0 < n) × (n ≤ 256) × (length (now a) ≡ n * n) × Sized n (now v) (now d) (now e) ⌝ }
-    ensures { λ b. ⌜ (b, now (v .exit), now (d .exit), now (e .exit)) ≡ readied n (now (a .entry)) (now (v .entry), now (d .entry), now (e .entry)) ⌝ }
-{
-    columns(n, a, v);
-    tred2(n, v, d, e);
-    let b = mark0(n, v, d, e);
-    if is_bad(b) {
-        return b;
-    }
-    move_up(n, e);
-    b
-}
 
 // What is lent after a start with d in an array of its own: where mark 0 saw something all is filled.
 fn set_out(b: Bad, d: &[f64], work: &mut [f64], result: &mut [f64]) -> Bad

@@ -1,3 +1,2 @@
--- Machine: the run over l, pass by pass. Walk: laws.
+-- Machine: the run over l, pass by pass.
 pub mod Machine
-pub mod Walk

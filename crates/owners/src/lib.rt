@@ -49,7 +49,7 @@ pub fn length_of(owner: usize, list: &[usize], tiles: &[u16], bytes: &[u8], tile
     let f = b + 32;
     let at = owner * list[1];
     let end = at + list[a];
-    store::length_of(32, &list[a..e], &tiles[b..f], &bytes[at..end], tile)
+    storeread::length_of(32, &list[a..e], &tiles[b..f], &bytes[at..end], tile)
 }
 
 pub fn fetch(
@@ -72,7 +72,7 @@ pub fn fetch(
     let f = b + 32;
     let at = owner * list[1];
     let end = at + list[a];
-    store::fetch(32, &list[a..e], &tiles[b..f], &bytes[at..end], tile, out)
+    storeread::fetch(32, &list[a..e], &tiles[b..f], &bytes[at..end], tile, out)
 }
 
 pub fn drop_tile(

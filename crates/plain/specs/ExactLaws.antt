@@ -10,9 +10,10 @@ use Rattle.grid.specs.Real.{Vec, zero64, zeros}
 use Rattle.grid.specs.CellLaws.{upto-long}
 use Rattle.leaves.specs.Scan.{firstBad}
 use Rattle.leaves.specs.ScanLaws.{firstBad-none, firstBad-fine, first-class}
-use Rattle.answers.specs.Answers.{answered, done, passed, limitGood, lengths, least, decompositionLength, refusal7}
+use Rattle.answers.specs.Answers.{answered, done, passed, least, decompositionLength, refusal7}
 use Rattle.answers.specs.OutcomeLaws.{none-seven}
 use Rattle.answers.specs.declared.Answer.{Answer}
+use Rattle.checks.specs.Checks.{limitGood, lengths}
 use Rattle.values.specs.Values.{normalised}
 use Rattle.jacobi.specs.Jacobi.{jacobi}
 use Rattle.plain.specs.Told.{Seen2, here, bad, used, Swept, Told, well, at-mark2, at-mark1, at-limit}

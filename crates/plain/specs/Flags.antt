@@ -7,8 +7,9 @@ use lib.Dec.{ltb, eqb}
 use lib.ListN.{length}
 use Rattle.grid.specs.Real.{Vec, at, zeros}
 use Rattle.leaves.specs.Scan.{firstBad}
-use Rattle.answers.specs.Answers.{refused, done, passed, limitGood, lengths, least, decompositionLength, refusal7}
+use Rattle.answers.specs.Answers.{refused, done, passed, least, decompositionLength, refusal7}
 use Rattle.answers.specs.declared.Answer.{Answer}
+use Rattle.checks.specs.Checks.{limitGood, lengths}
 use Rattle.jacobi.specs.Jacobi.{jacobi}
 use Rattle.sorted.specs.Result.{longest, workLength}
 use Rattle.svd.specs.Svd.{loaded, checks, ran, svd}

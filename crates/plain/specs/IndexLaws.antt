@@ -9,10 +9,12 @@ use lib.ListN.{length}
 use Rattle.grid.specs.Real.{Vec, zeros}
 use Rattle.leaves.specs.Scan.{firstBad}
 use Rattle.leaves.specs.ScanLaws.{first-class}
-use Rattle.answers.specs.Answers.{refused, passed, limitGood, lengths, least, decompositionLength, refusal7}
+use Rattle.answers.specs.Answers.{refused, passed, least, decompositionLength, refusal7}
 use Rattle.answers.specs.Index.{AtMark, Indexed}
-use Rattle.answers.specs.IndexLaws.{lengths-index, refuse-index, unless-index, refusal7-index, refusal7-most, none, below, pointed}
+use Rattle.answers.specs.IndexLaws.{refuse-index, unless-index, refusal7-index, refusal7-most, none, below, pointed}
 use Rattle.answers.specs.declared.Answer.{Answer}
+use Rattle.checks.specs.Checks.{limitGood, lengths}
+use Rattle.checks.specs.ChecksLaws.{lengths-index}
 use Rattle.jacobi.specs.Jacobi.{jacobi}
 use Rattle.plain.specs.Told.{Told, well, at-mark2, at-mark1, at-limit}
 use Rattle.plain.specs.ToldLaws.{told, swept-class, swept-seen}

@@ -10,8 +10,9 @@ use Rattle.grid.specs.LoopLaws.{rounds-limit}
 use Rattle.grid.specs.Real.{Vec, zeros}
 use Rattle.leaves.specs.Scan.{firstBad}
 use Rattle.answers.specs.Answers.{passed, least, refusal7}
-use Rattle.answers.specs.OutcomeLaws.{right-limit, Settled, always, by-test}
+use Rattle.answers.specs.OutcomeLaws.{Settled, always, by-test}
 use Rattle.answers.specs.declared.Answer.{Answer}
+use Rattle.checks.specs.ChecksLaws.{right-limit}
 use Rattle.jacobi.specs.Jacobi.{going, swept, ended, sweeps, finished, jacobi}
 use Rattle.sorted.specs.Result.{longest, sortedOut}
 use Rattle.svd.specs.Svd.{loaded, checks, ran, svd}

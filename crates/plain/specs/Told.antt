@@ -8,7 +8,8 @@ use Rattle.leaves.specs.Leaf.{isFinite}
 use Rattle.leaves.specs.Finite.{First}
 use Rattle.answers.specs.Answers.{answered, done}
 use Rattle.answers.specs.declared.Answer.{Answer}
-use Rattle.values.specs.Values.{factors, valuesFactors, normalised}
+use Rattle.marks.specs.Marks.{factors, valuesFactors}
+use Rattle.values.specs.Values.{normalised}
 use Rattle.sweep.specs.Sweep.{sweep}
 
 -- both factors are finite: what mark 1 looks at. They stand one behind the other in w, rows by cols and cols by cols

@@ -21,7 +21,8 @@ use Rattle.leaves.specs.declared.Bad.{Bad}
 use Rattle.leaves.specs.declared.Bad.the-variants.{At, Nowhere}
 use Rattle.answers.specs.Answers.{answered, done, passed, marked}
 use Rattle.answers.specs.declared.Answer.{Answer}
-use Rattle.values.specs.Values.{factors, factorsBad, normalised, valuesFactors, allBad}
+use Rattle.marks.specs.Marks.{factors, factorsBad, valuesFactors, allBad}
+use Rattle.values.specs.Values.{normalised}
 use Rattle.jacobi.specs.Jacobi.{going, verdict, swept, ended, sweeps, finished, jacobi}
 use Rattle.sweep.specs.Sweep.{valueAt, sweep}
 use Rattle.plain.specs.Document.{plainSweep, unchanged, plainSweeps, plain}

@@ -8,8 +8,9 @@ use borrow.Author.Tests.{ltb-false, eqb-true}
 use lib.Dec.{ltb, eqb}
 use Rattle.grid.specs.Loop.{upto}
 use Rattle.grid.specs.LoopLaws.{next}
-use Rattle.answers.specs.Answers.{refused, done, lengths}
+use Rattle.answers.specs.Answers.{refused, done}
 use Rattle.answers.specs.declared.Answer.{Answer}
+use Rattle.checks.specs.Checks.{lengths}
 use Rattle.qr.specs.Qr.{checks}
 
 module _ {S : Type 0} (f : ℕ → S → S) (a : ℕ) (s : S) {t : S} (kept : (j : ℕ) → f j t ≡ t) where

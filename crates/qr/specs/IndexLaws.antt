@@ -15,11 +15,14 @@ use Rattle.leaves.specs.Leaf.{isFinite}
 use Rattle.leaves.specs.Scan.{classOf, firstBad}
 use Rattle.leaves.specs.ScanLaws.{class-cases}
 use Rattle.leaves.specs.Finite.{First}
-use Rattle.answers.specs.Answers.{answered, done, lengths, emptied}
+use Rattle.answers.specs.Answers.{answered, done, emptied}
 use Rattle.answers.specs.Index.{AtMark, Indexed}
-use Rattle.answers.specs.IndexLaws.{lengths-index, refuse-index, below, pointed, unless-indexed, by-check}
-use Rattle.answers.specs.OutcomeLaws.{lengths-few, refuse-few}
+use Rattle.answers.specs.IndexLaws.{refuse-index, below, pointed, unless-indexed, by-check}
+use Rattle.answers.specs.OutcomeLaws.{refuse-few}
 use Rattle.answers.specs.declared.Answer.{Answer}
+use Rattle.checks.specs.Checks.{lengths}
+use Rattle.checks.specs.ChecksLaws.{lengths-index}
+use Rattle.checks.specs.ChecksLaws.{lengths-few}
 use Rattle.gram.specs.Gram.{columnOf, passes, norm}
 use Rattle.unit.specs.Unit.{normalised, putColumn, finished}
 use Rattle.qr.specs.Qr.{column, columnStep, columns, checks, qrQ}

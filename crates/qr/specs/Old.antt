@@ -9,8 +9,9 @@ use Rattle.grid.specs.Real.{Vec}
 use Rattle.leaves.specs.Scan.{firstBad}
 use Rattle.answers.specs.Answers.{passed, unlessBad}
 use Rattle.answers.specs.Early.{Early}
-use Rattle.answers.specs.OutcomeLaws.{lengths-few, refuse-few, same-bad, old}
+use Rattle.answers.specs.OutcomeLaws.{refuse-few, same-bad, old}
 use Rattle.answers.specs.declared.Answer.{Answer}
+use Rattle.checks.specs.ChecksLaws.{lengths-few}
 use Rattle.qr.specs.Qr.{checks, columns, qrQ}
 
 qr-checks-few : (m k a x : ℕ) → checks m k a x .answer ≤ 6

@@ -5,8 +5,9 @@ use lib.Dec.{ltb}
 use lib.ListN.{length}
 use Rattle.grid.specs.Loop.{upto}
 use Rattle.grid.specs.Real.{Vec}
-use Rattle.answers.specs.Answers.{refused, done, passed, lengths, unlessBad}
+use Rattle.answers.specs.Answers.{refused, done, passed, unlessBad}
 use Rattle.answers.specs.declared.Answer.{Answer}
+use Rattle.checks.specs.Checks.{lengths}
 use Rattle.leaves.specs.Scan.{firstBad}
 use Rattle.gram.specs.Gram.{columnOf, passes, norm}
 use Rattle.unit.specs.Unit.{finished}

@@ -1,2 +1,3 @@
--- The pairs from the small problem's values and vectors.
+-- The pairs from the small problem's values and vectors. RitzLaws: laws.
 pub mod Ritz
+pub mod RitzLaws

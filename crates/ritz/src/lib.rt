@@ -4,28 +4,40 @@ ghost use Prim.Native.Nat.{_+_, _*_, _<_, _≤_};
 ghost use lib.ListN.{length};
 ghost use Rattle.order.specs.Rank.{Below};
 ghost use Rattle.ritz.specs.Ritz.{ritz, levelled, pair, pairs};
+use gram::column_of;
 use gram::norm;
 use grid::EPSILON;
 use grid::LARGEST;
 use grid::at1;
 use grid::copy;
-use grid::entry;
-use grid::fill;
 use grid::put1;
-use matvec::add;
+use rowsum::sum;
 use unit::over;
 
-fn ritz(n: usize, s: usize, m: usize, q: &[f64], vecs: &[f64], c: usize, x: &mut [f64])
-    requires { ⌜ (m ≤ s) × (c < m) × (length (now q) ≡ s * n) × (length (now vecs) ≡ m * m) × (length (now x) ≡ n) ⌝ }
+// The vector of the small problem's place c. by is scratch: its numbers in the vectors of q.
+fn sum_of(
+    n: usize,
+    s: usize,
+    m: usize,
+    q: &[f64],
+    vecs: &[f64],
+    c: usize,
+    by: &mut [f64],
+    x: &mut [f64],
+)
+    requires { ⌜ (n ≤ 256) × (m ≤ 256) × (m ≤ s) × (c < m) × (length (now q) ≡ s * n) × (length (now vecs) ≡ m * m) × (length (now by) ≡ m) × (length (now x) ≡ n) ⌝ }
     ensures { λ _. ⌜ now (x .exit) ≡ ritz n m (now (q .entry)) (now (vecs .entry)) c ⌝ }
 {
-    fill(x);
-    for j in 0..m {
-        let f = j * n;
-        let e = f + n;
-        let by = entry(vecs, m, m, j, c);
-        add(n, by, &q[f..e], x);
-    }
+    column_of(m, m, vecs, c, by);
+    sum(s, m, n, q, by, x);
+}
+
+fn ritz(n: usize, s: usize, m: usize, q: &[f64], vecs: &[f64], c: usize, x: &mut [f64])
+    requires { ⌜ (n ≤ 256) × (m ≤ 256) × (m ≤ s) × (c < m) × (length (now q) ≡ s * n) × (length (now vecs) ≡ m * m) × (length (now x) ≡ n) ⌝ }
+    ensures { λ _. ⌜ now (x .exit) ≡ ritz n m (now (q .entry)) (now (vecs .entry)) c ⌝ }
+{
+    let mut by = [0.0f64; LARGEST];
+    sum_of(n, s, m, q, vecs, c, &mut by[..m], x);
 }
 
 // c over its norm, where that is above EPSILON.
@@ -53,7 +65,7 @@ fn pair(
     y: &mut [f64],
     x: &mut [f64],
 )
-    requires { ⌜ (t < k) × (m ≤ s) × (c < m) × (length (now q) ≡ s * n) × (length (now vals) ≡ m) × (length (now vecs) ≡ m * m) × (length (now y) ≡ n) × (length (now x) ≡ k + k * n) ⌝ }
+    requires { ⌜ (n ≤ 256) × (m ≤ 256) × (t < k) × (m ≤ s) × (c < m) × (length (now q) ≡ s * n) × (length (now vals) ≡ m) × (length (now vecs) ≡ m * m) × (length (now y) ≡ n) × (length (now x) ≡ k + k * n) ⌝ }
     ensures { λ _. ⌜ now (x .exit) ≡ pair n k m (now (q .entry)) (now (vals .entry)) (now (vecs .entry)) c t (now (x .entry)) ⌝ }
 {
     put1(x, t, at1(vals, c));
@@ -77,7 +89,7 @@ pub fn pairs(
     y: &mut [f64],
     x: &mut [f64],
 )
-    requires { ⌜ (found ≤ k) × (found ≤ m) × (m ≤ s) × (m ≤ 256) × Below m (now o) × (length (now q) ≡ s * n) × (length (now vals) ≡ m) × (length (now vecs) ≡ m * m) × (length (now y) ≡ n) × (length (now x) ≡ k + k * n) ⌝ }
+    requires { ⌜ (n ≤ 256) × (found ≤ k) × (found ≤ m) × (m ≤ s) × (m ≤ 256) × Below m (now o) × (length (now q) ≡ s * n) × (length (now vals) ≡ m) × (length (now vecs) ≡ m * m) × (length (now y) ≡ n) × (length (now x) ≡ k + k * n) ⌝ }
     ensures { λ _. ⌜ now (x .exit) ≡ pairs n k m found (now (q .entry)) (now (vals .entry)) (now (vecs .entry)) (now (o .entry)) (now (x .entry)) ⌝ }
 {
     for t in 0..found {

@@ -1,4 +1,4 @@
--- What the functions' proofs share, and the theorems about `root`: `Nearest`, `Neighbours`. The crates `hypot2` and `gain` cite those that are `pub`.
+-- What the functions' proofs share, and the theorems about `root`: `Nearest`, `Neighbours`. The crates `nearest`, `hypot2` and `gain` cite those that are `pub`.
 pub mod Whole
 pub mod Fields
 pub mod School

@@ -88,21 +88,24 @@ beside n s r p l e h = halved n (whole 54 (n * 2 ^ 54)) s (whole-of n l) (omega 
 
 -- ---- the code's turns
 
--- Of k turns i are done: c is what a was before its first two digits came down, and the others give what the whole gives.
-pub record Under (k i n : ℕ) (from : Found) (a d t up : ℕ) : Type 0 where
+-- Of k turns i are done: c is what is left of n, its first two digits behind d, the next in two, the others in a; and the turns left give what the whole gives.
+pub record Under (k i n : ℕ) (from : Found) (two a d u t nought : ℕ) : Type 0 where
   s : ℕ
   r : ℕ
   c : ℕ
   rest : r ≤ s * 2
   low : c < 2 ^ 62
   small : s + 1 ≤ (from .s + 1) * 2 ^ i
-  shifted : a ≡ c % 2 ^ 60 * 4
+  ahead : two ≡ c / 2 ^ 58 % 4
+  shifted : a ≡ (c * 2 ^ 6) % 2 ^ 64
   brought : d ≡ r * 4 + c / 2 ^ 60
-  root : t ≡ s * 16 + 4
-  one : up ≡ s * 32 + 20
+  root : u ≡ s * 4 + 1
+  moved : t ≡ s * 16 + 4
+  nil : nought ≡ s * 8 + 1
   same : digits (k - i) c (record { s = s; r = r }) ≡ digits k n from
 
-pub start : (k n : ℕ) (from : Found) → from .r ≤ from .s * 2 → n < 2 ^ 62 → Under k 0 n from (n % 2 ^ 60 * 4) (from .r * 4 + n / 2 ^ 60) (from .s * 16 + 4) (from .s * 32 + 20)
+pub start : (k n : ℕ) (from : Found) → from .r ≤ from .s * 2 → n < 2 ^ 62
+    → Under k 0 n from (n / 2 ^ 58 % 4) ((n * 2 ^ 6) % 2 ^ 64) (from .r * 4 + n / 2 ^ 60) (from .s * 4 + 1) (from .s * 16 + 4) (from .s * 8 + 1)
 start k n from h l =
     let all : k - 0 ≡ k = omega arith in
     record {
@@ -112,84 +115,100 @@ start k n from h l =
       rest = h;
       low = l;
       small = omega arith;
+      ahead = refl;
       shifted = refl;
       brought = refl;
       root = refl;
-      one = refl;
+      moved = refl;
+      nil = refl;
       same = ap (λ (x : ℕ). digits x n from) all;
     }
 
-pub again : (k i n a d t up off t' : ℕ) (from : Found) → Under k i n from a d t up → i < k → off ≡ cond (ltb d (t / 4)) 0 t → t' ≡ cond (ltb d (t / 4)) (t * 2 - 4) up
-    → Under k (i + 1) n from (a % 2 ^ 60 * 4) (d * 4 + a / 2 ^ 60 - off) t' (t' * 2 + 12)
+-- two digits come down, the next two are taken from the others, and those move up
+down : (c two : ℕ) → two ≡ c / 2 ^ 58 % 4 → c % 2 ^ 60 * 4 / 2 ^ 60 ≡ two
+down c two e = omega arith
+
+next-two : (c a : ℕ) → a ≡ (c * 2 ^ 6) % 2 ^ 64 → a / 2 ^ 62 ≡ (c % 2 ^ 60 * 4) / 2 ^ 58 % 4
+next-two c a e = omega arith
+
+next-others : (c a : ℕ) → a ≡ (c * 2 ^ 6) % 2 ^ 64 → (a * 2 ^ 2) % 2 ^ 64 ≡ (c % 2 ^ 60 * 4 * 2 ^ 6) % 2 ^ 64
+next-others c a e = omega arith
+
+pub again : (k i n two a d u t nought off u' : ℕ) (from : Found) → Under k i n from two a d u t nought → i < k → off ≡ cond (ltb d u) 0 t → u' ≡ cond (ltb d u) nought (u * 2 + 3)
+    → Under k (i + 1) n from (a / 2 ^ 62) ((a * 2 ^ 2) % 2 ^ 64) (d * 4 + two - off) u' (u' * 4) (u' * 2 - 1)
 unfolding digits turn
-again k i n a d t up off t' from u h e f = rw (e, f, add-one i) (go (ltb d (t / 4)) (ltb→lt d (t / 4)) (nltb→le d (t / 4)) next)
+again k i n two a d u t nought off u' from h l e f = rw (e, f, add-one i) (go (ltb d u) (ltb→lt d u) (nltb→le d u) next)
   where
-    next : digits (k - suc i) a (cond (ltb d (t / 4)) (record { s = u .s * 2; r = d }) (record { s = u .s * 2 + 1; r = d - t / 4 })) ≡ digits k n from
+    next : digits (k - suc i) (h .c % 2 ^ 60 * 4) (cond (ltb d u) (record { s = h .s * 2; r = d }) (record { s = h .s * 2 + 1; r = d - u })) ≡ digits k n from
     next =
         let j : k - i ≡ suc (k - suc i) = omega arith in
-        let e : t / 4 ≡ u .s * 4 + 1 = omega (arith, u .root) in
-        rw (u .shifted, u .brought, e) (rw j at (u .same))
+        rw (h .brought, h .root) (rw j at (h .same))
 
-    go : (z : Bool) → (T z → d < t / 4) → (T (not z) → t / 4 ≤ d) → digits (k - suc i) a (cond z (record { s = u .s * 2; r = d }) (record { s = u .s * 2 + 1; r = d - t / 4 })) ≡ digits k n from
-        → Under k (suc i) n from (a % 2 ^ 60 * 4) (d * 4 + a / 2 ^ 60 - cond z 0 t) (cond z (t * 2 - 4) up) (cond z (t * 2 - 4) up * 2 + 12)
+    go : (z : Bool) → (T z → d < u) → (T (not z) → u ≤ d)
+        → digits (k - suc i) (h .c % 2 ^ 60 * 4) (cond z (record { s = h .s * 2; r = d }) (record { s = h .s * 2 + 1; r = d - u })) ≡ digits k n from
+        → Under k (suc i) n from (a / 2 ^ 62) ((a * 2 ^ 2) % 2 ^ 64) (d * 4 + two - cond z 0 t) (cond z nought (u * 2 + 3)) (cond z nought (u * 2 + 3) * 4) (cond z nought (u * 2 + 3) * 2 - 1)
     go true less more same = record {
-      s = u .s * 2;
+      s = h .s * 2;
       r = d;
-      c = a;
-      rest = omega (arith, less tt, u .root);
-      low = omega (arith, u .shifted);
-      small = omega (arith, u .small, twice (from .s + 1) i);
-      shifted = refl;
-      brought = omega arith;
-      root = omega (arith, u .root);
-      one = omega (arith, u .root);
+      c = h .c % 2 ^ 60 * 4;
+      rest = omega (arith, less tt, h .root);
+      low = omega arith;
+      small = omega (arith, h .small, twice (from .s + 1) i);
+      ahead = next-two (h .c) a (h .shifted);
+      shifted = next-others (h .c) a (h .shifted);
+      brought = omega (arith, down (h .c) two (h .ahead));
+      root = omega (arith, h .nil);
+      moved = omega (arith, h .nil);
+      nil = omega (arith, h .nil);
       same = same;
     }
     go false less more same = record {
-      s = u .s * 2 + 1;
-      r = d - t / 4;
-      c = a;
-      rest = omega (arith, more tt, u .root, u .brought, u .rest, u .low);
-      low = omega (arith, u .shifted);
-      small = omega (arith, u .small, twice (from .s + 1) i);
-      shifted = refl;
-      brought = omega (arith, more tt, u .root);
-      root = omega (arith, u .one);
-      one = omega (arith, u .one);
+      s = h .s * 2 + 1;
+      r = d - u;
+      c = h .c % 2 ^ 60 * 4;
+      rest = omega (arith, more tt, h .root, h .brought, h .rest, h .low);
+      low = omega arith;
+      small = omega (arith, h .small, twice (from .s + 1) i);
+      ahead = next-two (h .c) a (h .shifted);
+      shifted = next-others (h .c) a (h .shifted);
+      brought = omega (arith, more tt, h .root, h .moved, down (h .c) two (h .ahead));
+      root = omega (arith, h .root);
+      moved = omega (arith, h .root);
+      nil = omega (arith, h .root);
       same = same;
     }
 
-pub done : (k i n a d t up : ℕ) (from : Found) → Under k i n from a d t up → k ≤ i → record { s = t / 16; r = d / 4 } ≡ digits k n from
+pub done : (k i n two a d u t nought : ℕ) (from : Found) → Under k i n from two a d u t nought → k ≤ i → record { s = u / 4; r = d / 4 } ≡ digits k n from
 unfolding digits
-done k i n a d t up from u h =
-    let e : t / 16 ≡ u .s = omega (arith, u .root) in
-    let f : d / 4 ≡ u .r = omega (arith, u .brought, u .low) in
+done k i n two a d u t nought from h l =
+    let e : u / 4 ≡ h .s = omega (arith, h .root) in
+    let f : d / 4 ≡ h .r = omega (arith, h .brought, h .low) in
     let g : k - i ≡ 0 = omega arith in
-    rw (e, f) (rw g at (u .same))
+    rw (e, f) (rw g at (h .same))
 
 -- before a turn there is room for it
-pub record Ready (a d t up : ℕ) : Type 0 where
-  pub some : 4 ≤ t
-  pub root : t < 2 ^ 60
+pub record Ready (two d u t nought : ℕ) : Type 0 where
+  pub root : u < 2 ^ 60
   pub rest : d < 2 ^ 59
-  pub word : a < 2 ^ 62
-  pub off : cond (ltb d (t / 4)) 0 t ≤ d * 4
-  pub new : cond (ltb d (t / 4)) (t * 2 - 4) up < 2 ^ 62
+  pub ahead : two < 4
+  pub off : cond (ltb d u) 0 t ≤ d * 4
+  pub some : 1 ≤ cond (ltb d u) nought (u * 2 + 3)
+  pub new : cond (ltb d u) nought (u * 2 + 3) < 2 ^ 61
 
-pub ready : (k i n a d t up : ℕ) (from : Found) → Under k i n from a d t up → i < k → (from .s + 1) * 2 ^ k ≤ 2 ^ 57 → Ready a d t up
-ready k i n a d t up from u h l =
-    let b : (from .s + 1) * 2 ^ suc i ≤ 2 ^ 57 = le-trans (mul-le-mul-left (from .s + 1) (pow-mono h)) l in
-    let g : u .s < 2 ^ 56 = omega (arith, u .small, twice (from .s + 1) i) in
-    let e = either (ltb d (t / 4)) (nltb→le d (t / 4)) in
+pub ready : (k i n two a d u t nought : ℕ) (from : Found) → Under k i n from two a d u t nought → i < k → (from .s + 1) * 2 ^ k ≤ 2 ^ 57 → Ready two d u t nought
+ready k i n two a d u t nought from h l m =
+    let b : (from .s + 1) * 2 ^ suc i ≤ 2 ^ 57 = le-trans (mul-le-mul-left (from .s + 1) (pow-mono l)) m in
+    let g : h .s < 2 ^ 56 = omega (arith, h .small, twice (from .s + 1) i) in
+    let e = either (ltb d u) (nltb→le d u) in
     record {
-      some = omega (arith, u .root);
-      root = omega (arith, u .root);
-      rest = omega (arith, u .rest, u .brought, u .low);
-      word = omega (arith, u .shifted);
+      root = omega (arith, h .root);
+      rest = omega (arith, h .rest, h .brought, h .low);
+      ahead = omega (arith, h .ahead);
       off = e .0;
-      new = omega (arith, u .root, u .one, e .1);
+      some = e .1;
+      new = omega (arith, h .root, h .nil, e .2);
     }
   where
-    either : (z : Bool) → (T (not z) → t / 4 ≤ d) → (cond z 0 t ≤ d * 4) × (cond z (t * 2 - 4) up ≤ t * 2 + up)
-    either true more = (omega arith, omega arith)
-    either false more = (omega (arith, more tt, u .root), omega arith)
+    either : (z : Bool) → (T (not z) → u ≤ d) → (cond z 0 t ≤ d * 4) × (1 ≤ cond z nought (u * 2 + 3)) × (cond z nought (u * 2 + 3) ≤ u * 2 + 3 + nought)
+    either true more = (omega arith, omega (arith, h .nil), omega arith)
+    either false more = (omega (arith, more tt, h .root, h .moved), omega arith, omega arith)

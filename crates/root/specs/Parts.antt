@@ -1,4 +1,5 @@
--- What the parts of `root` compute from a bit pattern. Definitions only.
+-- What the parts of `root` compute from a bit pattern. Laws only.
+-- What stands here is what the code does on the way; no public promise cites it.
 use Prim.Native.Nat.{ℕ, _+_, _-_, _*_, _/_, _%_, _^_}
 use mathlib.Core.Bool.{cond}
 use lib.Dec.{ltb, eqb}

@@ -1,4 +1,5 @@
--- The square root as it is worked out on paper, one binary digit a turn. Definitions only.
+-- The square root as it is worked out on paper, one binary digit a turn. Laws only.
+-- `turn` and `digits` are the method on paper, which the code's inner promises cite; no public promise cites them.
 use Prim.Native.Nat.{ℕ, zero, suc, _+_, _-_, _*_, _/_, _%_, _^_}
 use mathlib.Core.Bool.{cond}
 use lib.Dec.{ltb}

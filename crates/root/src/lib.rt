@@ -56,53 +56,54 @@ pub struct Found {
     pub r: u64,
 }
 
-// What the next digit takes off when two digits more have come down: t where it goes into d with those two, else nothing. Here and below a select, no branch, which a
-// processor would guess wrong every other time.
-fn taken(d: u64, t: u64) -> u64
-    ensures { λ r. ⌜ r ≡ cond (ltb d (t / 4)) 0 t ⌝ }
+// What the next digit takes off when two digits more have come down: t where u goes into d, else nothing. Here and below a select, no branch, which a processor would
+// guess wrong every other time.
+fn taken(d: u64, u: u64, t: u64) -> u64
+    ensures { λ r. ⌜ r ≡ cond (ltb d u) 0 t ⌝ }
 {
-    if d < t / 4 {
+    if d < u {
         return 0;
     }
     t
 }
 
-// The next t: up where the digit is 1.
-fn next(d: u64, t: u64, up: u64) -> u64
-    requires { ⌜ (4 ≤ t) × (t < 2 ^ 62) ⌝ }
-    ensures { λ r. ⌜ r ≡ cond (ltb d (t / 4)) (t * 2 - 4) up ⌝ }
+// The next u: nought where the digit is 0.
+fn next(d: u64, u: u64, nought: u64) -> u64
+    requires { ⌜ u < 2 ^ 62 ⌝ }
+    ensures { λ r. ⌜ r ≡ cond (ltb d u) nought (u * 2 + 3) ⌝ }
 {
-    if d < t / 4 {
-        return t * 2 - 4;
+    if d < u {
+        return nought;
     }
-    up
+    u * 2 + 3
 }
 
 // The school method: k digits more of a root s with the remainder r, where the number goes on with the digits of n, the first two at its top, bits 61 and 60, and then
-// with zeros. d is what is left over, with two digits brought down behind it. A digit 1 takes off the root with 01 behind it, and t is that two places further up. A
-// turn tries the next digit, keeps the remainder, and brings down two digits. Nothing is kept waiting: d is moved up before it is known what is taken off, and up is
-// what t becomes where the digit is 1.
+// with zeros. d is what is left over, with two digits brought down behind it, and u the root with 01 behind it, which a digit 1 takes off. A turn tries the next digit,
+// keeps the remainder, and brings down two digits. Nothing is kept waiting: before it is known whether u goes into d, d is moved up with the next two digits behind it,
+// t is u moved up as far, and nought is what u becomes where the digit is 0. The digits that come after these two stand in a, the first at its very top.
 pub fn digits(s: u64, r: u64, n: u64, k: u64) -> Found
     requires { ⌜ (r ≤ s * 2) × (n < 2 ^ 62) × ((s + 1) * 2 ^ k ≤ 2 ^ 57) ⌝ }
     ensures { λ w. ⌜ w ≡ digits k n (record { s = s; r = r }) ⌝ }
 {
-    let mut a = n % 0x1000_0000_0000_0000 * 4;
+    let mut two = (n >> 58) % 4;
+    let mut a = n << 6;
     let mut d = r * 4 + (n >> 60);
+    let mut u = s * 4 + 1;
     let mut t = s * 16 + 4;
-    let mut up = s * 32 + 20;
+    let mut nought = s * 8 + 1;
     let mut i: u64 = 0;
     while i < k {
-        let off = taken(d, t);
-        t = next(d, t, up);
-        up = t * 2 + 12;
-        d = d * 4 + (a >> 60) - off;
-        a = a % 0x1000_0000_0000_0000 * 4;
+        let off = taken(d, u, t);
+        u = next(d, u, nought);
+        t = u * 4;
+        nought = u * 2 - 1;
+        d = d * 4 + two - off;
+        two = a >> 62;
+        a = a << 2;
         i += 1;
     }
-    Found {
-        s: t / 16,
-        r: d / 4,
-    }
+    Found { s: u / 4, r: d / 4 }
 }
 
 // The whole number nearest to the root of n * 2^52. Halfway from s to s + 1 lies s * s + s and a quarter, so it is s + 1 where the remainder is above s.

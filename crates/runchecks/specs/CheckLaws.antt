@@ -10,8 +10,8 @@ use lib.Dec.{ltb, leb, eqb}
 use lib.ListN.{length, take, drop, length-drop}
 use lib.Seq.{take-all}
 use Rattle.grid.specs.Real.{Vec}
-use Rattle.answers.specs.Answers.{limitGood, editionGood}
-use Rattle.answers.specs.OutcomeLaws.{limit-right}
+use Rattle.checks.specs.Checks.{limitGood, editionGood}
+use Rattle.checks.specs.ChecksLaws.{limit-right}
 use Rattle.pass.specs.declared.Run.{Run}
 use Rattle.runchecks.specs.Checks.{inRange}
 

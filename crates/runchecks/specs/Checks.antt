@@ -7,8 +7,9 @@ use lib.ListN.{length, drop}
 use Rattle.grid.specs.Real.{Vec, zero64, at}
 use Rattle.grid.specs.Table.{part}
 use Rattle.leaves.specs.Scan.{isBad, firstBad}
-use Rattle.answers.specs.Answers.{done, refused, passed, limitGood, editionGood, lengths}
+use Rattle.answers.specs.Answers.{done, refused, passed}
 use Rattle.answers.specs.declared.Answer.{Answer}
+use Rattle.checks.specs.Checks.{limitGood, editionGood, lengths}
 use Rattle.pass.specs.declared.Run.{Run}
 
 -- each number of a run still going is in range for its size; f may be anything, and tst1 is looked at below

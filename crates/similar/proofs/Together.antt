@@ -13,8 +13,8 @@ use Rattle.grid.specs.Real.{Vec, at, _⊕_, _⊗_}
 use Rattle.grid.specs.Cell.{at2, put2}
 use Rattle.grid.specs.CellLaws.{put-elsewhere, upto-long}
 use Rattle.tred.specs.Tred.{similarStep, similarColumn, similarityStep}
-use Rattle.similar.specs.Pairs.{sums, twoStep, twoColumns, pairStep}
-use Rattle.similar.specs.declared.Pair.{Pair}
+use Rattle.pairs.specs.Pairs.{sums, twoStep, twoColumns, pairStep}
+use Rattle.pairs.specs.declared.Pair.{Pair}
 
 -- ---- a loop in two parts, and its first turn by itself
 

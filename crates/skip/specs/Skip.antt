@@ -1,4 +1,5 @@
--- The tests that settle the skip test with no root. Definitions only.
+-- The tests that settle the skip test with no root. Laws only.
+-- `both`, `surely` and `surelyNot` are what the code does on the way; no public promise cites them.
 use mathlib.Core.Bool.{Bool, _&&_}
 use lib.Ieee.{Float, lt, le}
 use Rattle.grid.specs.Real.{zero64, epsilon, _⊗_}

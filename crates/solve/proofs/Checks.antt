@@ -7,9 +7,10 @@ use native.Mathlib.Omega.{arith}
 use borrow.Author.Tests.{ltb-false, le-ltb, eqb-false}
 use lib.Dec.{ltb, eqb}
 use lib.Ieee.{Float}
-use Rattle.answers.specs.Answers.{refused, done, fitting, present, decompositionLength}
-use Rattle.answers.specs.ToleranceLaws.{fitting-right}
+use Rattle.answers.specs.Answers.{refused, done, present, decompositionLength}
 use Rattle.answers.specs.declared.Answer.{Answer}
+use Rattle.checks.specs.Checks.{fitting}
+use Rattle.checks.specs.ToleranceLaws.{fitting-right}
 use Rattle.solve.specs.Solve.{parts, solveChecks, inverseChecks}
 use Rattle.solution.specs.SolutionLaws.{Sized}
 use Rattle.solve.specs.Checked.{solve-checks-5, solve-checks-last, inverse-checks-last}

@@ -7,8 +7,9 @@ use lib.Ieee.{Float}
 use lib.ListN.{length}
 use Rattle.grid.specs.Real.{Vec}
 use Rattle.leaves.specs.Scan.{firstBad}
-use Rattle.answers.specs.Answers.{refused, passed, lengths, decompositionLength, unlessBad}
+use Rattle.answers.specs.Answers.{refused, passed, decompositionLength, unlessBad}
 use Rattle.answers.specs.declared.Answer.{Answer}
+use Rattle.checks.specs.Checks.{lengths}
 use Rattle.solve.specs.Solve.{parts, looked}
 use Rattle.solution.specs.Solution.{solution}
 use Rattle.inverse.specs.Inverse.{inverted}

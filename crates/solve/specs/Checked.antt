@@ -7,12 +7,15 @@ use native.Mathlib.Omega.{arith}
 use borrow.Author.Tests.{le-ltb, eq-eqb, ne-eqb}
 use lib.Dec.{ltb, eqb}
 use lib.Ieee.{Float}
-use Rattle.answers.specs.Answers.{refused, passed, toleranceGood, lengths, fitting, decompositionLength}
+use Rattle.answers.specs.Answers.{refused, passed, decompositionLength}
 use Rattle.answers.specs.Early.{EarlyOr11}
 use Rattle.answers.specs.Index.{AtMark}
-use Rattle.answers.specs.IndexLaws.{lengths-index, no-mark}
-use Rattle.answers.specs.OutcomeLaws.{lengths-few, few-early}
+use Rattle.answers.specs.IndexLaws.{no-mark}
+use Rattle.answers.specs.OutcomeLaws.{few-early}
 use Rattle.answers.specs.declared.Answer.{Answer}
+use Rattle.checks.specs.Checks.{toleranceGood, lengths, fitting}
+use Rattle.checks.specs.ChecksLaws.{lengths-index}
+use Rattle.checks.specs.ChecksLaws.{lengths-few}
 use Rattle.solve.specs.Solve.{parts, solveChecks, inverseChecks}
 
 -- ---- the order of 5 and 11

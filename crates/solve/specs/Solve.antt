@@ -6,8 +6,9 @@ use lib.Dec.{ltb, eqb}
 use lib.Ieee.{Float}
 use lib.ListN.{length}
 use Rattle.grid.specs.Real.{Vec}
-use Rattle.answers.specs.Answers.{refused, done, passed, fitting, decompositionLength, emptied, marked, unlessBad}
+use Rattle.answers.specs.Answers.{refused, done, passed, decompositionLength, emptied, marked, unlessBad}
 use Rattle.answers.specs.declared.Answer.{Answer}
+use Rattle.checks.specs.Checks.{fitting}
 use Rattle.leaves.specs.Scan.{isBad, firstBad}
 use Rattle.solution.specs.Solution.{solution}
 use Rattle.inverse.specs.Inverse.{inverted}

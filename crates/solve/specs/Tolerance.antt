@@ -10,9 +10,10 @@ use Rattle.grid.specs.Real.{Vec, zero64, one64, at, _⊕_, _⊗_, _⊘_}
 use Rattle.grid.specs.Cell.{entry}
 use Rattle.grid.specs.Table.{table, rows}
 use Rattle.leaves.specs.Scan.{firstBad}
-use Rattle.answers.specs.Answers.{passed, toleranceGood, fitting, least, decompositionLength, unlessBad}
-use Rattle.answers.specs.ToleranceLaws.{fitting-lengths, zero-good, minus-zero-good, above-minus-zero}
+use Rattle.answers.specs.Answers.{passed, least, decompositionLength, unlessBad}
 use Rattle.answers.specs.declared.Answer.{Answer}
+use Rattle.checks.specs.Checks.{toleranceGood, fitting}
+use Rattle.checks.specs.ToleranceLaws.{fitting-lengths, zero-good, minus-zero-good, above-minus-zero}
 use Rattle.solution.specs.Solution.{valuesOf, uOf, vtOf, columnSum, coefficient, solution}
 use Rattle.inverse.specs.Inverse.{inverse, pinvSum, inverted}
 use Rattle.solve.specs.Solve.{solveChecks, inverseChecks, looked, solve, pseudoInverse}

@@ -23,18 +23,19 @@ use Rattle.leaves.specs.Finite.{Finite}
 use Rattle.leaves.specs.FiniteLaws.{finite-both}
 use Rattle.leaves.specs.declared.Bad.{Bad}
 use Rattle.leaves.specs.declared.Bad.the-variants.{At, Nowhere}
-use Rattle.answers.specs.Answers.{limitGood, editionGood}
+use Rattle.checks.specs.Checks.{limitGood, editionGood}
 use Rattle.transform.specs.Transform.{transformed}
 use Rattle.pass.specs.Pass.{tiny, mark1, settled, judged, verdict, pass}
 use Rattle.pass.specs.declared.Run.{Run}
-use Rattle.turns.specs.Turns.{State, opened, stopping, released, closed}
+use Rattle.turnends.specs.TurnEnds.{State, opened, stopping, released, closed}
 use Rattle.told.specs.Document.{Carried}
 use Rattle.told.specs.Last.{plus, nought, nought-zero, plus-larger, plus-le, nought-eq, transformed-ended}
 use Rattle.told.specs.Long.{body-long}
-use Rattle.machine.specs.Machine.{goneOn, come, found, undecided, decided, step}
+use Rattle.settled.specs.Settled.{goneOn, come, found}
+use Rattle.machine.specs.Machine.{undecided, decided, step}
 use Rattle.runchecks.specs.Checks.{inRange, sound}
 use Rattle.runchecks.specs.CheckLaws.{Open}
-use Rattle.machine.specs.Walk.{left, left-open, Found, found-found, closed-settled, onward-going, onward-ended}
+use Rattle.settled.specs.Walk.{left, left-open, Found, found-found, closed-settled, onward-going, onward-ended}
 
 -- ---- what is kept
 

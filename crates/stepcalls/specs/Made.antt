@@ -22,26 +22,30 @@ use Rattle.leaves.specs.ScanLaws.{firstBad-none, scan-class}
 use Rattle.leaves.specs.FiniteLaws.{finite-both}
 use Rattle.leaves.specs.declared.Bad.{Bad}
 use Rattle.leaves.specs.declared.Bad.the-variants.{At, Nowhere}
-use Rattle.answers.specs.Answers.{answered, done, refused, passed, limitGood, editionGood, lengths, fittingEdition, refusal7, marked}
-use Rattle.answers.specs.EditionLaws.{fitting-edition-right, right-edition}
-use Rattle.answers.specs.OutcomeLaws.{limit-right}
+use Rattle.answers.specs.Answers.{answered, done, refused, passed, refusal7, marked}
 use Rattle.answers.specs.declared.Answer.{Answer}
+use Rattle.checks.specs.Checks.{limitGood, editionGood, lengths, fittingEdition}
+use Rattle.checks.specs.EditionLaws.{fitting-edition-right, right-edition}
+use Rattle.checks.specs.ChecksLaws.{limit-right}
 use Rattle.tred.specs.Tred.{tred2}
 use Rattle.tred.specs.Sizes.{tred2-square, tred2-diagonal, tred2-beside}
-use Rattle.turns.specs.Turns.{State, fresh, run}
+use Rattle.turnends.specs.TurnEnds.{State, fresh}
+use Rattle.turns.specs.Turns.{run}
 use Rattle.ql.specs.Ql.{upStep, movedUp, tql2}
-use Rattle.turns.specs.Turns as Turns
-use Rattle.ql.specs.Ql as Ql
+use Rattle.turnends.specs.TurnEnds as TurnEnds
+use Rattle.qlend.specs.QlEnd as QlEnd
 use Rattle.told.specs.Last.{plus-zero, moved-last}
 use Rattle.layout.specs.Layout.{columns}
-use Rattle.eigen.specs.Eigen.{mark0, afterTred, decomposed, cleared, given, eigen}
+use Rattle.aftertred.specs.AfterTred.{mark0, afterTred}
+use Rattle.eigen.specs.Eigen.{decomposed, cleared, given, eigen}
 use Rattle.layout.specs.Layout as Layout
 use Rattle.eigen.specs.Eigen as Eigen
 use Rattle.exact.specs.Copies.{columns-long}
 use Rattle.machine.specs.Machine.{step}
 use Rattle.runchecks.specs.Checks.{checked}
 use Rattle.runchecks.specs.CheckLaws.{Open}
-use Rattle.lent.specs.Lent.{readied, setting, stateOf, closedUp}
+use Rattle.ready.specs.Readied.{readied}
+use Rattle.lent.specs.Lent.{setting, stateOf, closedUp}
 use Rattle.steps.specs.Steps.{Outcome, running, recorded, answering, endsAs, newRun, endsWith, begun, entered, started, moved, stepped, finished}
 use Rattle.stepcalls.specs.Runs.{walked, arrived, reply, Reached}
 use Rattle.stepcalls.specs.Rest.{rest, rest-ended, rest-fresh, rest-last, step-whole}
@@ -61,7 +65,7 @@ stands n limit edition x = (recorded n limit edition (x .0) (done (x .0 .count))
 
 pub data Made (n limit edition : ℕ) (whole : Answer × Vec × Vec) (t : Outcome) : Type 0 where
   over : running (t .0) ≡ false → reply t ≡ whole → Made n limit edition whole t
-  runs : (x : State) → t ≡ stands n limit edition x → Fit n limit edition → Open n limit (x .0) → Body n x → given n (Ql.finished n (rest n limit edition x)) ≡ whole
+  runs : (x : State) → t ≡ stands n limit edition x → Fit n limit edition → Open n limit (x .0) → Body n x → given n (QlEnd.finished n (rest n limit edition x)) ≡ whole
       → Made n limit edition whole t
 
 -- what is lent is what it was
@@ -108,20 +112,20 @@ module _ (n limit edition : ℕ) (x : State) (f : Fit n limit edition) (o : Open
       ∙ ap (λ (s : State). brought n limit edition (step n limit edition s)) same
 
   finish-to : n ≤ x .0 .l
-      → finished (recorded n limit edition (x .0) (done (x .0 .count))) (x .3) (x .2 ++ x .1) ≡ endsAs n limit edition (Turns.stopping (x .0) 1) (closedUp n (x .0) (x .3) (x .2 ++ x .1))
+      → finished (recorded n limit edition (x .0) (done (x .0 .count))) (x .3) (x .2 ++ x .1) ≡ endsAs n limit edition (TurnEnds.stopping (x .0) 1) (closedUp n (x .0) (x .3) (x .2 ++ x .1))
   unfolding finished
   finish-to h =
       let q = recorded n limit edition (x .0) (done (x .0 .count)) in
       let r = x .2 ++ x .1 in
       λ i. cond (is-going i)
       (cond (passed (passes-checks i))
-      (cond (le-ltb (x .0 .l) n h i) (answering q (refused 13 0), x .3, r) (endsAs n limit edition (Turns.stopping (x .0) 1) (closedUp n (x .0) (x .3) r)))
+      (cond (le-ltb (x .0 .l) n h i) (answering q (refused 13 0), x .3, r) (endsAs n limit edition (TurnEnds.stopping (x .0) 1) (closedUp n (x .0) (x .3) r)))
       (answering q (passes-checks i), x .3, r))
       (q, x .3, r)
 
-  finish-is : n ≤ x .0 .l → reply (finished (recorded n limit edition (x .0) (done (x .0 .count))) (x .3) (x .2 ++ x .1)) ≡ given n (Ql.finished n x)
+  finish-is : n ≤ x .0 .l → reply (finished (recorded n limit edition (x .0) (done (x .0 .count))) (x .3) (x .2 ++ x .1)) ≡ given n (QlEnd.finished n x)
   unfolding closedUp
-  finish-is h = ap reply (finish-to h) ∙ ap (λ (s : State). given n (Ql.finished n s)) same
+  finish-is h = ap reply (finish-to h) ∙ ap (λ (s : State). given n (QlEnd.finished n s)) same
 
   early-is : x .0 .l < n
       → finished (recorded n limit edition (x .0) (done (x .0 .count))) (x .3) (x .2 ++ x .1) ≡ (recorded n limit edition (x .0) (refused 13 0), x .3, x .2 ++ x .1)
@@ -131,11 +135,11 @@ module _ (n limit edition : ℕ) (x : State) (f : Fit n limit edition) (o : Open
       let r = x .2 ++ x .1 in
       λ i. cond (is-going i)
       (cond (passed (passes-checks i))
-      (cond (lt-ltb (x .0 .l) n h i) (answering q (refused 13 0), x .3, r) (endsAs n limit edition (Turns.stopping (x .0) 1) (closedUp n (x .0) (x .3) r)))
+      (cond (lt-ltb (x .0 .l) n h i) (answering q (refused 13 0), x .3, r) (endsAs n limit edition (TurnEnds.stopping (x .0) 1) (closedUp n (x .0) (x .3) r)))
       (answering q (passes-checks i), x .3, r))
       (q, x .3, r)
 
-  kept-whole : given n (Ql.finished n (rest n limit edition (step n limit edition x))) ≡ given n (Ql.finished n (rest n limit edition x))
+  kept-whole : given n (QlEnd.finished n (rest n limit edition (step n limit edition x))) ≡ given n (QlEnd.finished n (rest n limit edition x))
   kept-whole =
       ap (given n) (step-whole n limit edition x (o .going) (o .at-most) (o .fewer) (λ q. omega (arith, o .above q, o .within)))
 
@@ -162,7 +166,7 @@ finish-over t g =
     let x = checked (q .n) (q .limit) (q .edition) (q .run) (t .1) (t .2) in
     λ i. cond (g i)
     (cond (passed x)
-    (cond (ltb (q .run .l) (q .n)) (answering q (refused 13 0), t .1, t .2) (endsAs (q .n) (q .limit) (q .edition) (Turns.stopping (q .run) 1) (closedUp (q .n) (q .run) (t .1) (t .2))))
+    (cond (ltb (q .run .l) (q .n)) (answering q (refused 13 0), t .1, t .2) (endsAs (q .n) (q .limit) (q .edition) (TurnEnds.stopping (q .run) 1) (closedUp (q .n) (q .run) (t .1) (t .2))))
     (answering q x, t .1, t .2)) t
 
 abbrev stepT : Outcome → Outcome
@@ -170,23 +174,23 @@ stepT t = stepped (t .0) (t .1) (t .2)
 
 module _ (n limit edition : ℕ) (whole : Answer × Vec × Vec) where
   -- a step of a run that goes on
-  ran : (x : State) → Fit n limit edition → Open n limit (x .0) → Body n x → given n (Ql.finished n (rest n limit edition x)) ≡ whole
+  ran : (x : State) → Fit n limit edition → Open n limit (x .0) → Body n x → given n (QlEnd.finished n (rest n limit edition x)) ≡ whole
       → Made n limit edition whole (brought n limit edition (step n limit edition x))
   ran x f o b w = go (step-next n limit edition x o b)
     where
       y : State
       y = step n limit edition x
 
-      left : given n (Ql.finished n (rest n limit edition y)) ≡ whole
+      left : given n (QlEnd.finished n (rest n limit edition y)) ≡ whole
       left = kept-whole n limit edition x f o b ∙ w
 
-      ends : length (y .2) ≡ n → closedUp n (y .0) (y .3) (y .2 ++ y .1) ≡ given n (Ql.finished n y)
-      ends l = unfold closedUp in ap (λ (s : State). given n (Ql.finished n s)) (state-is n y l)
+      ends : length (y .2) ≡ n → closedUp n (y .0) (y .3) (y .2 ++ y .1) ≡ given n (QlEnd.finished n y)
+      ends l = unfold closedUp in ap (λ (s : State). given n (QlEnd.finished n s)) (state-is n y l)
 
       go : Next n limit x y → Made n limit edition whole (brought n limit edition y)
       go (halts s l) =
           subst (Made n limit edition whole) (sym (brought-over n limit edition y s))
-          (over s (ends l ∙ ap (λ (u : State). given n (Ql.finished n u)) (sym (rest-ended n limit edition y (ap not s))) ∙ left))
+          (over s (ends l ∙ ap (λ (u : State). given n (QlEnd.finished n u)) (sym (rest-ended n limit edition y (ap not s))) ∙ left))
       go (goes p c r) = runs y (brought-on n limit edition y (p .going)) f p c left
 
   step-made : (t : Outcome) → Made n limit edition whole t → Made n limit edition whole (stepT t)
@@ -213,7 +217,7 @@ module _ (n limit edition : ℕ) (whole : Answer × Vec × Vec) where
       let h : n ≤ x .0 .l = behind-last x o (subst (λ (u : Outcome). arrived (u .0) ≡ true) e a) in
       ap (λ (u : Outcome). reply (finished (u .0) (u .1) (u .2))) e
       ∙ finish-is n limit edition x f o b h
-      ∙ ap (λ (u : State). given n (Ql.finished n u)) (sym (rest-last n limit edition x (o .going) (none-left n limit edition x f o b h) h))
+      ∙ ap (λ (u : State). given n (QlEnd.finished n u)) (sym (rest-last n limit edition x (o .going) (none-left n limit edition x f o b h) h))
       ∙ w
 
   -- and it has ended
@@ -387,7 +391,7 @@ module _ (n limit edition : ℕ) (a : Vec) (f : Fit n limit edition) where
           over refl (refuses k c (⊎-elim (λ (e : c ≡ 8). ap (λ (j : ℕ). eqb j 0) e) (λ (e : c ≡ 10). ap (λ (j : ℕ). eqb j 0) e) s))
       go Nowhere h =
           runs s refl f (fresh-open n limit (f .some) (limit-right limit (f .limits) .0)) (begun-body x (unfold first in refl) h)
-          (ap (λ (u : State). given n (Ql.finished n u)) (rest-fresh n limit edition s refl refl) ∙ (unfold tql2 run in refl))
+          (ap (λ (u : State). given n (QlEnd.finished n u)) (rest-fresh n limit edition s refl refl) ∙ (unfold tql2 run in refl))
 
 pub started-made : (n limit edition : ℕ) (a work result : Vec) → Made n limit edition (eigen n limit edition a work result) (started n limit edition a work result)
 unfolding eigen started Eigen.entered entered

@@ -15,11 +15,13 @@ use Rattle.answers.specs.Answers.{answered, done, marked}
 use Rattle.answers.specs.declared.Answer.{Answer}
 use Rattle.pass.specs.Pass.{pass}
 use Rattle.pass.specs.declared.Run.{Run}
-use Rattle.turns.specs.Turns.{State, opened, ended, iterated, released, closed, stage, turn}
-use Rattle.ql.specs.Ql.{mark2, finished}
+use Rattle.turnends.specs.TurnEnds.{State, opened, ended, released, closed}
+use Rattle.turns.specs.Turns.{iterated, stage, turn}
+use Rattle.qlend.specs.QlEnd.{mark2, finished}
 use Rattle.sort.specs.Sort.{sorted}
-use Rattle.machine.specs.Machine.{nextL, goneOn, come, skipped, found, undecided, decided, step}
-use Rattle.machine.specs.Walk.{going-on, onward-ended, onward-going, closed-settled, closed-l, passedOver, Coming, settles, stays, coming}
+use Rattle.settled.specs.Settled.{nextL, goneOn, come, skipped, found}
+use Rattle.machine.specs.Machine.{undecided, decided, step}
+use Rattle.settled.specs.Walk.{going-on, onward-ended, onward-going, closed-settled, closed-l, passedOver, Coming, settles, stays, coming}
 
 -- ---- a loop, its first turn in front
 

@@ -1,44 +1,27 @@
--- What the checks of a step and a finish leave, and what a start and a step put together. Laws only.
-use mathlib.Core.Path.{_≡_, refl, sym, ap, _∙_}
-use mathlib.Core.Bool.{Bool, true, false, cond, _&&_}
+-- What a start, a step and a finish put together. Laws only.
+use mathlib.Core.Path.{_≡_, refl, ap, _∙_}
+use mathlib.Core.Bool.{Bool, true, false, cond}
 use Prim.Native.Nat.{ℕ, _+_, _*_}
-use native.Mathlib.Omega.{arith}
-use borrow.Author.Tests.{eqb-true, eqb-false}
-use lib.Dec.{eqb}
+use lib.Dec.{ltb, eqb}
 use lib.ListN.{length}
 use Rattle.grid.specs.Real.{Vec, zeros}
-use Rattle.answers.specs.Answers.{done, refused, passed, lengths}
-use Rattle.answers.specs.OutcomeLaws.{lengths-right}
+use Rattle.leaves.specs.Scan.{isBad}
+use Rattle.leaves.specs.declared.Bad.{Bad}
+use Rattle.answers.specs.Answers.{done, refused, passed, marked}
 use Rattle.answers.specs.declared.Answer.{Answer}
+use Rattle.pass.specs.Pass.{going, converged}
 use Rattle.pass.specs.declared.Run.{Run}
+use Rattle.turnends.specs.TurnEnds.{fresh, stopping}
 use Rattle.eigen.specs.Eigen.{cleared}
 use Rattle.machine.specs.Machine.{step}
-use Rattle.runchecks.specs.Checks.{inRange, sound, checked}
-use Rattle.runchecks.specs.CheckLaws.{Past, range-past}
-use Rattle.lent.specs.Lent.{stateOf, laidOut, closedUp}
-use Rattle.steps.specs.Steps.{Outcome, recorded, endsAs, newRun, endsWith, moved}
+use Rattle.runchecks.specs.Checks.{checked}
+use Rattle.lent.specs.Lent.{setting, stateOf, laidOut, closedUp}
+use Rattle.lent.specs.Parts.{stood}
+use Rattle.lent.specs.declared.Stand.{Stand}
+use Rattle.runstart.specs.Begun.{begunAs}
+use Rattle.runfinish.specs.Finished.{standsAs, finishedAs}
+use Rattle.steps.specs.Steps.{Outcome, recorded, running, answering, endsAs, newRun, endsWith, begun, moved, finished}
 use Rattle.steps.specs.declared.EigenRun.{EigenRun}
-
--- ---- what the checks leave
-
-pub record Checked (n limit : ℕ) (r : Run) (work result : Vec) : Type 0 where
-  pub works : length work ≡ n
-  pub room : length result ≡ n + n * n
-  pub past : Past n limit r
-
-pub checked-past : (n limit edition : ℕ) (r : Run) (work result : Vec) (x : Answer) → x ≡ checked n limit edition r work result → x .answer ≡ 0 → Checked n limit r work result
-unfolding checked
-checked-past n limit edition r work result x e z = go (passed l) refl (inRange n limit edition r) refl (sym (ap (λ (y : Answer). y .answer) e) ∙ z)
-  where
-    l : Answer
-    l = lengths (length work) n (length result) (n + n * n) 0 0
-
-    go : (b : Bool) → passed l ≡ b → (c : Bool) → inRange n limit edition r ≡ c → cond b (cond (c && sound n r work result) (done 0) (refused 13 0)) l .answer ≡ 0 → Checked n limit r work result
-    go true p true t w =
-        let q = lengths-right (length work) n (length result) (n + n * n) 0 0 (eqb-true (l .answer) 0 p) in
-        record { works = q .0; room = q .1; past = range-past n limit edition r t }
-    go true p false t w = absurd (omega arith)
-    go false p c t w = absurd (eqb-false (l .answer) 0 p w)
 
 -- ---- a step, from what the machine's left
 
@@ -48,6 +31,49 @@ unfolding moved
 moved-on n limit edition r t W R w R′ q e g =
     g
     ∙ ap (λ (s : Run × Vec × Vec). cond (eqb (s .0 .stop) 0) (recorded n limit edition (s .0) (done (s .0 .count)), s .1, s .2) (endsAs n limit edition (s .0) (closedUp n (s .0) (s .1) (s .2)))) e
+
+-- ---- a start and a finish, from how the run stands then
+
+-- with the sizes that its record keeps
+abbrev whole : ℕ → ℕ → ℕ → Stand × Vec × Vec → Outcome
+whole n limit edition (s, work, result) = (recorded n limit edition (s .run) (s .answer), work, result)
+
+pub begun-whole : (n limit edition : ℕ) (s : Stand) (a w r : Vec) → (s, w, r) ≡ begunAs n a → (recorded n limit edition (s .run) (s .answer), w, r) ≡ begun n limit edition a
+unfolding begun begunAs
+begun-whole n limit edition s a w r e = ap (whole n limit edition) e ∙ go (isBad (setting n a .0))
+  where
+    k : Bad × Vec × Vec
+    k = setting n a
+
+    go : (b : Bool) → whole n limit edition (cond b (stood (stopping fresh converged) (marked 0 0 (k .0)), k .1, k .2) (stood (stopping fresh going) (done 0), k .1, k .2))
+        ≡ cond b (newRun n limit edition converged (marked 0 0 (k .0)), k .1, k .2) (newRun n limit edition going (done 0), k .1, k .2)
+    go true = refl
+    go false = refl
+
+pub finished-whole : (q : EigenRun) (t : Stand) (W R w r : Vec) → (t, w, r) ≡ finishedAs (q .n) (q .limit) (q .edition) (stood (q .run) (q .answer)) W R
+    → (recorded (q .n) (q .limit) (q .edition) (t .run) (t .answer), w, r) ≡ finished q W R
+unfolding finished finishedAs
+finished-whole q t W R w r e = ap (whole (q .n) (q .limit) (q .edition)) e ∙ go (running q) (passed x) (ltb (q .run .l) (q .n))
+  where
+    x : Answer
+    x = checked (q .n) (q .limit) (q .edition) (q .run) W R
+
+    c : Answer × Vec × Vec
+    c = closedUp (q .n) (q .run) W R
+
+    go : (a b d : Bool)
+        → whole (q .n) (q .limit) (q .edition) (
+        cond a
+        (cond b (cond d (stood (q .run) (refused 13 0), W, R) (standsAs (stopping (q .run) converged) c)) (stood (q .run) x, W, R))
+        (stood (q .run) (q .answer), W, R)
+        )
+        ≡ cond a
+        (cond b (cond d (answering q (refused 13 0), W, R) (endsAs (q .n) (q .limit) (q .edition) (stopping (q .run) converged) c)) (answering q x, W, R))
+        (q, W, R)
+    go true true true = refl
+    go true true false = refl
+    go true false d = refl
+    go false b d = refl
 
 -- ---- a start
 

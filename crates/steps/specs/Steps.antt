@@ -5,11 +5,12 @@ use lib.Dec.{ltb, eqb}
 use lib.ListN.{length}
 use Rattle.grid.specs.Real.{Vec}
 use Rattle.leaves.specs.Scan.{isBad, firstBadLower}
-use Rattle.answers.specs.Answers.{done, refused, passed, limitGood, fittingEdition, refusal7, marked}
+use Rattle.answers.specs.Answers.{done, refused, passed, refusal7, marked}
 use Rattle.answers.specs.declared.Answer.{Answer}
+use Rattle.checks.specs.Checks.{limitGood, fittingEdition}
 use Rattle.pass.specs.Pass.{going, converged}
 use Rattle.pass.specs.declared.Run.{Run}
-use Rattle.turns.specs.Turns.{fresh, stopping}
+use Rattle.turnends.specs.TurnEnds.{fresh, stopping}
 use Rattle.eigen.specs.Eigen.{cleared}
 use Rattle.lent.specs.Lent.{setting, stateOf, laidOut, closedUp}
 use Rattle.machine.specs.Machine.{step}

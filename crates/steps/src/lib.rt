@@ -8,21 +8,19 @@ ghost use Rattle.runchecks.specs.CheckLaws.{Open};
 ghost use Rattle.steps.specs.Steps.{newRun, begun, entered, started, moved, stepped, finished};
 use answers::Answer;
 use answers::done;
-use answers::fitting_edition;
-use answers::limit_good;
-use answers::marked;
 use answers::refusal7;
 use answers::refused;
+use checks::fitting_edition;
+use checks::limit_good;
 use grid::LARGEST;
 use grid::fill;
-use leaves::is_bad;
-use lent::begin_run;
+use lent::Stand;
 use lent::close_up;
 use lent::move_on;
 use pass::Run;
 use runchecks::checked;
+use runfinish::finish;
 use scan::first_bad_lower;
-use turns::stopping;
 
 // A run of `symmetric_eigen`. It goes on while run.stop is 0 and has ended otherwise; answer is what the last call gave. Between
 // steps run.l is the l that is worked on, n where the last is done, and run.passes is 0 where the search for m is still to come.
@@ -72,11 +70,16 @@ fn begin(
     requires { ⌜ (0 < n) × (n ≤ 256) × (length (now matrix) ≡ n * n) × (now work ≡ zeros n) × (now result ≡ zeros (n + n * n)) ⌝ }
     ensures { λ q. ⌜ (q, now (work .exit), now (result .exit)) ≡ begun n limit edition (now (matrix .entry)) ⌝ }
 {
-    let b = begin_run(n, matrix, work, result);
-    if is_bad(b) {
-        return new_run(n, limit, edition, 1, marked(0, 0, b));
+    let s = runstart::begin(n, matrix, work, result);
+    let run = s.run;
+    let answer = s.answer;
+    EigenRun {
+        n,
+        limit,
+        edition,
+        run,
+        answer,
     }
-    new_run(n, limit, edition, 0, done(0))
 }
 
 // The start after its checks of sizes, limit, edition and lengths.
@@ -205,37 +208,15 @@ impl EigenRun {
         let limit = self.limit;
         let edition = self.edition;
         let run = self.run;
-        let stop = run.stop;
-        if stop != 0 {
-            return self;
-        }
-        let x = checked(n, limit, edition, run, work, result);
-        if x.answer != 0 {
-            return EigenRun {
-                n,
-                limit,
-                edition,
-                run,
-                answer: x,
-            };
-        }
-        if run.l < n {
-            let early = refused(13, 0);
-            return EigenRun {
-                n,
-                limit,
-                edition,
-                run,
-                answer: early,
-            };
-        }
-        let answer = close_up(n, run, work, result);
-        let ended = stopping(run, 1);
+        let answer = self.answer;
+        let s = finish(n, limit, edition, Stand { run, answer }, work, result);
+        let run = s.run;
+        let answer = s.answer;
         EigenRun {
             n,
             limit,
             edition,
-            run: ended,
+            run,
             answer,
         }
     }

@@ -1,14 +1,12 @@
--- What a sound store lets the code do, and what a put and a removal come to. Lemmas.
+-- What a sound store lets the code do, and what a put comes to. Lemmas.
 use mathlib.Core.Path.{_≡_, sym, _∙_}
 use mathlib.Core.Bool.{Bool, false, not}
 use mathlib.Core.List.{List}
 use Prim.Native.Nat.{ℕ, _+_, _-_, _≤_, _<_}
 use native.Mathlib.Omega.{arith}
 use borrow.Author.Tests.{not-false, le-ltb, lt-ltb, lt-leb}
-use lib.ListN.{length, take, set}
-use Rattle.answers.specs.Answers.{done}
-use Rattle.answers.specs.declared.Answer.{Answer}
-use Rattle.storemap.specs.Store.{Outcome, place, roomOf, heldOf, lengthAt, startOf, sound, closed, kept, added, removed, putOf}
+use lib.ListN.{length, take}
+use Rattle.storemap.specs.Store.{Outcome, place, roomOf, heldOf, startOf, sound, kept, added, putOf}
 use Rattle.storemap.specs.SoundLaws.{Facts, facts, sounds}
 
 -- b is what the code's check of the store said
@@ -66,10 +64,3 @@ module _ (entries : ℕ) (list tiles bytes : List ℕ) (b : Bool) (e : b ≡ sou
           lt-leb entries (heldOf list) h,
           lt-ltb (roomOf list) (startOf list (heldOf list) + length block) (omega (arith, f .whole)),
         )
-
--- the removal put together from what the loops did
-pub removed-whole : (list tiles bytes list′ tiles′ bytes′ : List ℕ) (k at used : ℕ) (x : Answer) → at ≡ startOf list k → used ≡ startOf list (heldOf list)
-    → bytes′ ≡ closed bytes at (lengthAt list k) used → tiles′ ≡ closed tiles k 1 (heldOf list) → list′ ≡ closed list (2 + k) 1 (2 + heldOf list) → x ≡ done 0
-    → _≡_ {A = Outcome} (x, set list′ 1 (heldOf list - 1), tiles′, bytes′) (removed list tiles bytes k)
-removed-whole list tiles bytes list′ tiles′ bytes′ k at used x p q b t l d =
-    λ i. (d i, set (l i) 1 (heldOf list - 1), t i, (b ∙ (λ j. closed bytes (p j) (lengthAt list k) (q j))) i)

@@ -1,4 +1,3 @@
--- Sums: the definitions. The others are laws: that nothing leaves its bits, and how the code lifts the products.
+-- Sums: the definitions. Lifts: laws, how the code lifts the products.
 pub mod Sums
-pub mod Range
 pub mod Lifts

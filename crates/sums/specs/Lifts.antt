@@ -12,7 +12,7 @@ use lib.IntN.{ℤ, pos, negsuc, natAbs, negℤ, subℕ, _+ℤ_, _-ℤ_, _*ℤ_, 
 use Rattle.grid.specs.Loop.{upto}
 use Rattle.grid.specs.LoopLaws.{upto-none, upto-more}
 use Rattle.sums.specs.Sums.{sampleAt, products}
-use Rattle.sums.specs.Range.{In, Range, mul-in, held, held-is, to-i64, product-in, product-is}
+use Rattle.wholes.specs.Range.{In, Range, mul-in, held, held-is, to-i64, product-in, product-is}
 use lib.Signed.{nonNeg}
 use mir.Syntax.{w32, w64}
 use mir.Val.{Fits, SFits}

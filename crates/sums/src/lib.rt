@@ -1,44 +1,14 @@
-// Sums of samples and of products of samples, worked out exactly in whole numbers, and the test against 2^53.
+// Sums of samples and of products of samples, worked out exactly in whole numbers.
 ghost use mathlib.Core.Path.{_≡_};
-ghost use mathlib.Core.Bool.{false};
-ghost use lib.IntN.{pos, _+ℤ_, _-ℤ_, _*ℤ_};
-ghost use mir.Syntax.{w64};
-ghost use mir.Val.{SFits};
 ghost use lib.ListN.{length};
 ghost use Prim.Native.Nat.{_+_, _*_, _/_, _<_, _≤_};
-ghost use lib.Ieee.{binary64, ofInt};
-ghost use Rattle.sums.specs.Range.{Range};
+ghost use Rattle.wholes.specs.Range.{Range};
 ghost use Rattle.sums.specs.Lifts.{Lift, Lifts};
-ghost use Rattle.sums.specs.Sums.{sampleAt, total, products, over};
-
-// The sum, the difference and the product of two whole numbers, each where it fits.
-fn plus(a: i64, b: i64) -> i64
-    requires { ⌜ SFits w64 (a +ℤ b) ⌝ }
-    ensures { λ r. ⌜ r ≡ a +ℤ b ⌝ }
-{
-    a + b
-}
-
-pub fn minus(a: i64, b: i64) -> i64
-    requires { ⌜ SFits w64 (a -ℤ b) ⌝ }
-    ensures { λ r. ⌜ r ≡ a -ℤ b ⌝ }
-{
-    a - b
-}
-
-pub fn times(a: i64, b: i64) -> i64
-    requires { ⌜ SFits w64 (a *ℤ b) ⌝ }
-    ensures { λ r. ⌜ r ≡ a *ℤ b ⌝ }
-{
-    a * b
-}
-
-pub fn signed(n: u64) -> i64
-    requires { ⌜ n ≤ 281474976710656 ⌝ }
-    ensures { λ r. ⌜ r ≡ pos n ⌝ }
-{
-    n as i64
-}
+ghost use Rattle.sums.specs.Sums.{sampleAt, total, products};
+use wholes::minus;
+use wholes::plus;
+use wholes::signed;
+use wholes::times;
 
 fn wide(x: i16) -> i64
     ensures { λ r. ⌜ (r ≡ x) × Range 32767 32768 x ⌝ }
@@ -128,21 +98,4 @@ pub fn products(count: usize, a: &[i16], b: &[i16]) -> i64
 {
     let s = lifts(count, a, b);
     minus(signed(s), signed(count as u64 * 1073709056))
-}
-
-// The magnitude is over 2^53.
-pub fn is_over(z: i64) -> bool
-    ensures { λ r. ⌜ r ≡ over z ⌝ }
-{
-    if z > 9007199254740992 {
-        return true;
-    }
-    z < -9007199254740992
-}
-
-pub fn float_of(z: i64) -> f64
-    requires { ⌜ over z ≡ false ⌝ }
-    ensures { λ r. ⌜ r ≡ ofInt binary64 z ⌝ }
-{
-    z as f64
 }

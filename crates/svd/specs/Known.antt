@@ -7,8 +7,9 @@ use borrow.Author.Tests.{ltb-false, leb-true, eqb-true}
 use lib.Dec.{ltb, leb, eqb}
 use Rattle.grid.specs.Real.{Vec}
 use Rattle.answers.specs.declared.Answer.{Answer}
-use Rattle.answers.specs.Answers.{refused, done, limitGood, lengths, least, decompositionLength}
+use Rattle.answers.specs.Answers.{refused, done, least, decompositionLength}
 use Rattle.answers.specs.AnswersLaws.{least-le}
+use Rattle.checks.specs.Checks.{limitGood, lengths}
 use Rattle.sweep.specs.Kept.{Sized}
 use Rattle.sorted.specs.Result.{longest, workLength}
 use Rattle.svd.specs.Svd.{checks}

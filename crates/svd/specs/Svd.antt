@@ -8,8 +8,9 @@ use Rattle.grid.specs.Loop.{upto}
 use Rattle.grid.specs.Real.{Vec, zeros, one64}
 use Rattle.grid.specs.Cell.{entry}
 use Rattle.leaves.specs.Scan.{firstBad}
-use Rattle.answers.specs.Answers.{refused, passed, limitGood, lengths, least, decompositionLength, refusal7}
+use Rattle.answers.specs.Answers.{refused, passed, least, decompositionLength, refusal7}
 use Rattle.answers.specs.declared.Answer.{Answer}
+use Rattle.checks.specs.Checks.{limitGood, lengths}
 use Rattle.jacobi.specs.Jacobi.{jacobi}
 use Rattle.sorted.specs.Result.{longest, workLength, sortedOut}
 

@@ -1,2 +1,2 @@
--- The product of a matrix that is its own mirror, walked along its rows. Sides: laws.
-pub mod Sides
+-- The product of a matrix that is its own mirror. Symmetry: laws.
+pub mod Symmetry

@@ -24,7 +24,7 @@ use Rattle.transform.specs.Transform.{spin, spins, still, landed, transformed}
 use Rattle.pass.specs.Pass.{tiny}
 use Rattle.transform.specs.declared.Spin.{Spin}
 use Rattle.ql.specs.Ql.{upStep, movedUp}
-use Rattle.turns.specs.Turns.{split}
+use Rattle.turnends.specs.TurnEnds.{split}
 
 -- ---- f64: a number with no minus sign, which nan is not; a zero of either sign
 

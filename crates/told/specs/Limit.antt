@@ -10,8 +10,10 @@ use Rattle.grid.specs.Loop.{rounds}
 use Rattle.grid.specs.LoopLaws.{rounds-limit, upto-both}
 use Rattle.grid.specs.Real.{Vec}
 use Rattle.pass.specs.Pass.{pass}
-use Rattle.turns.specs.Turns.{State, fresh, opened, ended, iterated, closed, stage, turn, run}
-use Rattle.ql.specs.Ql.{movedUp, finished, tql2}
+use Rattle.turnends.specs.TurnEnds.{State, fresh, opened, ended, closed}
+use Rattle.turns.specs.Turns.{iterated, stage, turn, run}
+use Rattle.qlend.specs.QlEnd.{finished}
+use Rattle.ql.specs.Ql.{movedUp, tql2}
 
 -- the rounds of one l
 iterated-limit : (n edition k m : ℕ) (x : State) → 0 < k → k ≤ m → ended (iterated n k edition x) ≡ true → iterated n m edition x ≡ iterated n k edition x

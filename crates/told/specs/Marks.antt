@@ -27,10 +27,12 @@ use Rattle.answers.specs.declared.Answer.{Answer}
 use Rattle.pass.specs.Pass as pa
 use Rattle.transform.specs.Transform.{transformed}
 use Rattle.pass.specs.Pass.{tiny, mark1, judged, verdict, pass}
-use Rattle.turns.specs.Turns.{State, fresh, opened, ended, iterated, stopping, released, closed, stage, turn, run}
-use Rattle.ql.specs.Ql.{movedUp, mark2, finished, tql2}
+use Rattle.turnends.specs.TurnEnds.{State, fresh, opened, ended, stopping, released, closed}
+use Rattle.turns.specs.Turns.{iterated, stage, turn, run}
+use Rattle.qlend.specs.QlEnd.{mark2, finished}
+use Rattle.ql.specs.Ql.{movedUp, tql2}
 use Rattle.sort.specs.Sort.{sorted}
-use Rattle.turns.specs.Bounds.{split-below}
+use Rattle.turnends.specs.Bounds.{split-below}
 use Rattle.told.specs.Last.{plus, nought, plus-zero, nought-zero, plus-larger, tiny-last, split-is, transformed-ended, moved-long, moved-last}
 use Rattle.told.specs.Document.{Carried, begun, grown, searched, settled, valued, Tql2}
 use Rattle.told.specs.Long.{ran-long}

@@ -17,16 +17,19 @@ use Rattle.grid.specs.Cell.{entry, putEntry}
 use Rattle.grid.specs.CellLaws.{cell, put-here, put-elsewhere}
 use Rattle.leaves.specs.Leaf.{isFinite}
 use Rattle.leaves.specs.FiniteLaws.{none-lower}
-use Rattle.answers.specs.Answers.{passed, editionGood}
-use Rattle.answers.specs.EditionLaws.{edition-right}
+use Rattle.answers.specs.Answers.{passed}
 use Rattle.answers.specs.declared.Answer.{Answer}
+use Rattle.checks.specs.Checks.{editionGood}
+use Rattle.checks.specs.EditionLaws.{edition-right}
 use Rattle.tred.specs.Tred.{tred2}
 use Rattle.layout.specs.Layout.{columns, rows}
-use Rattle.eigen.specs.Eigen.{afterTred, decomposed, cleared, given, entered, eigen}
+use Rattle.aftertred.specs.AfterTred.{afterTred}
+use Rattle.eigen.specs.Eigen.{decomposed, cleared, given, entered, eigen}
 use Rattle.eigen.specs.Lent.{outward}
 use Rattle.exact.specs.Copies.{columns-cell, columns-long}
 use Rattle.exact.specs.ExactLaws.{enters}
-use Rattle.tridiagonal.specs.Tridiagonal.{triStep, tri, inward}
+use Rattle.tri.specs.Tri.{triStep, tri}
+use Rattle.tridiagonal.specs.Tridiagonal.{inward}
 
 -- of (matrix, d, e): the answer, the vectors row by row, the values, and e
 unfoldable pub innerOf : ℕ → ℕ → ℕ → Vec × Vec × Vec → Answer × Vec × Vec × Vec

@@ -1,21 +1,9 @@
--- The tridiagonal matrix of document 000's Lanczos, and the inner call of `symmetric_eigen` on it. Definitions only.
-use mathlib.Core.Bool.{cond}
+-- The inner call of `symmetric_eigen` on the tridiagonal matrix of document 000's Lanczos. Definitions only.
 use Prim.Native.Nat.{ℕ, _+_, _*_}
-use lib.Dec.{ltb}
-use Rattle.grid.specs.Loop.{upto}
-use Rattle.grid.specs.Real.{Vec, zeros, at}
-use Rattle.grid.specs.Cell.{putEntry}
+use Rattle.grid.specs.Real.{Vec, zeros}
 use Rattle.answers.specs.declared.Answer.{Answer}
 use Rattle.eigen.specs.Eigen.{eigen}
-
--- the alphas on the diagonal, the betas on both sides of it
-abbrev pub triStep : ℕ → Vec → Vec → ℕ → Vec → Vec
-triStep m al be i t =
-    let u = putEntry t m i i (at al i) in
-    cond (ltb (i + 1) m) (putEntry (putEntry u m i (i + 1) (at be i)) m (i + 1) i (at be i)) u
-
-unfoldable pub tri : ℕ → Vec → Vec → Vec → Vec
-tri m al be t = upto (triStep m al be) 0 m t
+use Rattle.tri.specs.Tri.{tri}
 
 -- the inner call, on as many rows as there were steps: its answer, work and result
 unfoldable pub inward : ℕ → ℕ → ℕ → Vec → Vec → Answer × Vec × Vec

@@ -1,39 +1,16 @@
 // The tridiagonal problem of document 000's Lanczos. Its matrix is its own mirror, so that it stands the same by rows and by columns, and
 // `symmetric_eigen` works on it in place: no second matrix is lent.
 ghost use mathlib.Core.Path.{_≡_};
-ghost use Prim.Native.Nat.{_+_, _*_, _<_, _≤_};
-ghost use lib.ListN.{length};
+ghost use Prim.Native.Nat.{_<_, _≤_};
 ghost use Rattle.grid.specs.CellLaws.{Sized};
-ghost use Rattle.tridiagonal.specs.Tridiagonal.{triStep, tri};
+ghost use Rattle.tri.specs.Tri.{tri};
 ghost use Rattle.tridiagonal.specs.Mirror.{innerOf};
+use aftertred::after_tred;
 use answers::Answer;
-use eigen::after_tred;
 use grid::LARGEST;
-use grid::put_entry;
 use layout::rows;
 use tred2::tred2;
-
-// One row.
-fn tri_row(m: usize, i: usize, al: &[f64; LARGEST], be: &[f64; LARGEST], t: &mut [f64])
-    requires { ⌜ (i < m) × (m ≤ 256) × (length (now t) ≡ m * m) ⌝ }
-    ensures { λ _. ⌜ now (t .exit) ≡ triStep m (now (al .entry)) (now (be .entry)) i (now (t .entry)) ⌝ }
-{
-    put_entry(t, m, m, i, i, al[i]);
-    if i + 1 < m {
-        let beta = be[i];
-        put_entry(t, m, m, i, i + 1, beta);
-        put_entry(t, m, m, i + 1, i, beta);
-    }
-}
-
-fn tri(m: usize, al: &[f64; LARGEST], be: &[f64; LARGEST], t: &mut [f64])
-    requires { ⌜ (m ≤ 256) × (length (now t) ≡ m * m) ⌝ }
-    ensures { λ _. ⌜ now (t .exit) ≡ tri m (now (al .entry)) (now (be .entry)) (now (t .entry)) ⌝ }
-{
-    for i in 0..m {
-        tri_row(m, i, al, be, t);
-    }
-}
+use tri::tri;
 
 // `symmetric_eigen` of the matrix t, in place: its values to d, and its vectors, row by row, to t.
 fn inner(

@@ -1,31 +1,19 @@
--- What stays in bounds: a run's l and m, how far its count can go. Laws only.
+-- What stays in bounds: what a run must be to have passes run, how far its count can go. Laws only.
 use mathlib.Core.Path.{_≡_, refl, ap, _∙_}
 use mathlib.Core.Bool.{Bool, true, false, cond}
-use Prim.Native.Nat.{ℕ, zero, suc, _+_, _-_, _≤_, _<_, _^_}
+use Prim.Native.Nat.{ℕ, zero, suc, _+_, _≤_, _<_, _^_}
 use native.Mathlib.Omega.{arith}
 use borrow.Author.Tests.{ltb-true}
 use lib.Dec.{ltb, eqb}
-use lib.Ieee.{Float}
-use Rattle.grid.specs.Loop.{seek, first, rounds}
+use Rattle.grid.specs.Loop.{rounds}
 use Rattle.grid.specs.Real.{Vec}
-use Rattle.pass.specs.Pass.{tiny, pass}
+use Rattle.pass.specs.Pass.{pass}
 use Rattle.pass.specs.declared.Run.{Run}
-use Rattle.turns.specs.Turns.{State, split, opened, ended, iterated, released, stopping, closed, stage, turn}
+use Rattle.turnends.specs.TurnEnds.{State, opened, ended, released, stopping, closed}
+use Rattle.turnends.specs.Bounds.{split-below, Passed, one-pass}
+use Rattle.turns.specs.Turns.{iterated, stage, turn}
 
--- ---- m is below n
-
-seek-le : (p : ℕ → Bool) (a k : ℕ) → seek p a k ≤ a + k
-unfolding seek
-seek-le p a zero = omega arith
-seek-le p a (suc k) = go (p a) (seek-le p (a + 1) k)
-  where
-    go : (b : Bool) → seek p (a + 1) k ≤ a + 1 + k → cond b a (seek p (a + 1) k) ≤ a + suc k
-    go true h = omega arith
-    go false h = omega arith
-
-pub split-below : (n l : ℕ) (tst1 : Float) (e : Vec) → l < n → split n l tst1 e < n
-unfolding split first
-split-below n l tst1 e h = omega (arith, seek-le (tiny e tst1) l (n - 1 - l))
+-- ---- before the passes
 
 unsettled : (b : Bool) (l m : ℕ) → ltb l m ≡ b → _≡_ {A = ℕ} (cond b 0 1) 0 → l < m
 unsettled true l m t s = ltb-true l m t
@@ -42,28 +30,6 @@ pub opened-ready : (n l : ℕ) (r : Run) (d e : Vec) → l < n → r .count + 60
 unfolding opened
 opened-ready n l r d e h g =
     record { below = unsettled _ l _ refl; within = split-below n l _ e h; none = refl; room = g }
-
-pub opened-l : (n l : ℕ) (r : Run) (d e : Vec) (q : Run) → q ≡ opened n l r d e → q .l ≡ l
-unfolding opened
-opened-l n l r d e q g = ap (λ (s : Run). s .l) g
-
--- ---- a pass
-
-pub record Passed (x y : State) : Type 0 where
-  pub l : y .0 .l ≡ x .0 .l
-  pub m : y .0 .m ≡ x .0 .m
-  pub passes : y .0 .passes ≡ x .0 .passes + 1
-  pub count : y .0 .count ≡ x .0 .count + 1
-
-pub one-pass : (n edition : ℕ) (x y : State) → y ≡ pass n edition x → Passed x y
-unfolding pass
-one-pass n edition x y e =
-    record {
-      l = ap (λ (s : State). s .0 .l) e;
-      m = ap (λ (s : State). s .0 .m) e;
-      passes = ap (λ (s : State). s .0 .passes) e;
-      count = ap (λ (s : State). s .0 .count) e;
-    }
 
 -- ---- the passes at one l
 

@@ -1,30 +1,12 @@
-// The values and both factors of a run of one-sided Jacobi, on the work array w of `sweep`, and what the marks find there.
+// The values of a run of one-sided Jacobi and its columns over them, on the work array w of `sweep`.
 ghost use mathlib.Core.Path.{_≡_};
 ghost use Prim.Native.Nat.{_+_, _≤_, _<_};
 ghost use lib.ListN.{length};
 ghost use Rattle.sweep.specs.Kept.{Sized};
-ghost use Rattle.values.specs.Values.{factorsBad, normSq, divided, normalStep, normalised, allBad};
+ghost use Rattle.values.specs.Values.{normSq, divided, normalStep, normalised};
 use grid::at1;
 use grid::put1;
-use leaves::Bad;
-use leaves::is_bad;
 use root::root;
-use scan::behind;
-use scan::first_bad;
-use scan::first_bad_cell;
-
-// Mark 1: the first number of the factors that is not finite, row by row, u first.
-pub fn factors_bad(rows: usize, cols: usize, w: &[f64]) -> Bad
-    requires { ⌜ Sized rows cols (now w) ⌝ }
-    ensures { λ b. ⌜ b ≡ factorsBad rows cols (now (w .entry)) ⌝ }
-{
-    let v = rows * cols;
-    let b = first_bad_cell(cols, &w[..v]);
-    if is_bad(b) {
-        return b;
-    }
-    behind(v, first_bad_cell(cols, &w[v..v + cols * cols]))
-}
 
 fn norm_sq(w: &[f64], a: usize, rows: usize) -> f64
     requires { ⌜ a + rows ≤ length (now w) ⌝ }
@@ -66,17 +48,4 @@ pub fn normalise(rows: usize, cols: usize, w: &mut [f64])
     for j in 0..cols {
         normalise_column(rows, cols, j, w);
     }
-}
-
-// Mark 2: the values, then the factors.
-pub fn all_bad(rows: usize, cols: usize, w: &[f64]) -> Bad
-    requires { ⌜ Sized rows cols (now w) ⌝ }
-    ensures { λ b. ⌜ b ≡ allBad rows cols (now (w .entry)) ⌝ }
-{
-    let s = rows * cols + cols * cols;
-    let b = first_bad(&w[s..s + cols]);
-    if is_bad(b) {
-        return b;
-    }
-    behind(cols, factors_bad(rows, cols, w))
 }

@@ -4,7 +4,7 @@ use mathlib.Core.Path.{_∙_, sym}
 use native.Mathlib.Omega.{arith}
 use borrow.Author.Needs.{needs}
 use borrow.Author.Tests.{eq-eqb, ne-eqb, lt-ltb, le-ltb}
-use Rattle.blockwrite.specs.Writing.{checked, given, headsAnswer}
+use Rattle.blockentries.specs.Writing.{checked, given, headsAnswer}
 use Rattle.block.specs.CheckLaws.{dimensions-good, or-zero}
 use Rattle.blockwrite.proofs.checked.Statement.{statement}
 use Rattle.blockwrite.proofs.checked.Tie as tie

@@ -5,8 +5,8 @@ use Prim.Native.Nat.{ℕ}
 use native.Mathlib.Omega.{arith}
 use borrow.Author.Needs.{needs}
 use borrow.Author.Tests.{eq-eqb, ne-eqb}
-use Rattle.blockwrite.specs.Writing.{given}
-use Rattle.blockwrite.specs.PutLaws.{headed, taken-checked, head-put, with-is}
+use Rattle.blockentries.specs.Writing.{given}
+use Rattle.blockentries.specs.PutLaws.{headed, taken-checked, head-put, with-is}
 use mathlib.Core.List.{List}
 use denote.Ref.{now}
 use Rattle.blockwrite.proofs.headed.Statement.{statement}

@@ -5,8 +5,8 @@ use native.Mathlib.Omega.{arith}
 use borrow.Author.Needs.{needs}
 use borrow.Author.Tests.{eq-eqb, ne-eqb}
 use Rattle.block.specs.CheckLaws.{dimensions-good}
-use Rattle.blockwrite.specs.Writing.{lengthOf, checked}
-use Rattle.blockwrite.specs.PutLaws.{taken-checked}
+use Rattle.blockentries.specs.Writing.{lengthOf, checked}
+use Rattle.blockentries.specs.PutLaws.{taken-checked}
 use Rattle.blockwrite.proofs.length_of.Statement.{statement}
 use Rattle.blockwrite.proofs.length_of.Tie as tie
 

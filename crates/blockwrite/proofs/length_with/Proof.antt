@@ -1,8 +1,8 @@
 -- Generated from the answers file beside it by tools/prove/prove.py: edit that.
 -- `blockwrite::length_with` meets its contract.
 use native.Mathlib.Omega.{arith}
-use Rattle.blockwrite.specs.Writing.{bytesOf, lengthWith}
-use Rattle.blockwrite.specs.PutLaws.{bytes-one, bytes-two, bytes-three, given-none, given-one, given-two, given-three}
+use Rattle.blockentries.specs.Writing.{bytesOf, lengthWith}
+use Rattle.blockentries.specs.PutLaws.{bytes-one, bytes-two, bytes-three, given-none, given-one, given-two, given-three}
 use Rattle.blockwrite.proofs.length_with.Statement.{statement}
 use Rattle.blockwrite.proofs.length_with.Tie as tie
 

@@ -2,7 +2,7 @@
 -- `blockwrite::put_doubles` meets its contract.
 use native.Mathlib.Omega.{arith}
 use lib.ListN.{length}
-use Rattle.blockwrite.specs.PutLaws.{bytes-one, bytes-two, bytes-three, numbers-none, numbers-one, numbers-two, numbers-three}
+use Rattle.blockentries.specs.PutLaws.{bytes-one, bytes-two, bytes-three, numbers-none, numbers-one, numbers-two, numbers-three}
 use lib.ListN.{length-map}
 use mathlib.Core.List.{map}
 use Rattle.octets.specs.Bits.{bits}

@@ -3,7 +3,7 @@
 use mathlib.Core.Path.{refl}
 use native.Mathlib.Omega.{arith}
 use lib.ListN.{length}
-use Rattle.blockwrite.specs.PutLaws.{bytes-one, bytes-two, bytes-three, numbers-none, numbers-one, numbers-two, numbers-three}
+use Rattle.blockentries.specs.PutLaws.{bytes-one, bytes-two, bytes-three, numbers-none, numbers-one, numbers-two, numbers-three}
 use denote.Ref.{now}
 use Rattle.blockwrite.proofs.put_numbers.Statement.{statement}
 use Rattle.blockwrite.proofs.put_numbers.Tie as tie

@@ -3,8 +3,8 @@
 use native.Mathlib.Omega.{arith}
 use borrow.Author.Needs.{needs}
 use lib.ListN.{length}
-use Rattle.blockwrite.specs.Writing.{given}
-use Rattle.blockwrite.specs.PutLaws.{begun, written-refused, written-done, with-is}
+use Rattle.blockentries.specs.Writing.{given}
+use Rattle.blockentries.specs.PutLaws.{begun, written-refused, written-done, with-is}
 use denote.Ref.{now}
 use Rattle.blockwrite.proofs.write.Statement.{statement}
 use Rattle.blockwrite.proofs.write.Tie as tie

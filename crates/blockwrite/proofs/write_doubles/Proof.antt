@@ -6,8 +6,8 @@ use lib.ListN.{length}
 use lib.ListN.{length-map}
 use mathlib.Core.List.{map}
 use Rattle.octets.specs.Bits.{bits}
-use Rattle.blockwrite.specs.Writing.{given}
-use Rattle.blockwrite.specs.PutLaws.{begun, written-refused, written-done, with-is, same-bytes}
+use Rattle.blockentries.specs.Writing.{given}
+use Rattle.blockentries.specs.PutLaws.{begun, written-refused, written-done, with-is, same-bytes}
 use denote.Ref.{now}
 use Rattle.blockwrite.proofs.write_doubles.Statement.{statement}
 use Rattle.blockwrite.proofs.write_doubles.Tie as tie

@@ -7,10 +7,10 @@ use borrow.Author.Needs.{needs}
 use borrow.Author.Tests.{lt-ltb, le-ltb, eq-eqb, ne-eqb, leb-true, not-false}
 use mathlib.Core.Bool.{Bool, true, false, _&&_, true≢false}
 use lib.Dec.{leb}
-use Rattle.answers.specs.Answers.{limitGood}
 use Rattle.answers.specs.AnswersLaws.{product-le}
-use Rattle.answers.specs.EditionLaws.{fitting-edition-right}
 use Rattle.answers.specs.declared.Answer.{Answer}
+use Rattle.checks.specs.Checks.{limitGood}
+use Rattle.checks.specs.EditionLaws.{fitting-edition-right}
 use Rattle.eigen.specs.Eigen.{eigen}
 use Rattle.eigen.proofs.symmetric_eigen.Statement.{statement}
 use Rattle.eigen.proofs.symmetric_eigen.Tie as tie

@@ -8,13 +8,13 @@ use native.Mathlib.Nat.{le-refl, add-comm}
 use lib.Dec.{T}
 use lib.Ieee.{Float, binary64, fits}
 use Rattle.root.proofs.Patterns.{no-nan}
-use Rattle.hypot2.specs.Hypot2.{rootOf, hypot2}
-use Rattle.hypot2.specs.Parts.{val}
-use Rattle.hypot2.specs.NearestEven.{NearestEven}
+use Rattle.nearest.specs.Hypot2.{rootOf, hypot2}
+use Rattle.rounding.specs.Parts.{val}
+use Rattle.nearest.specs.NearestEven.{NearestEven}
 use lib.Ieee.Scale.{finite}
-use Rattle.hypot2.proofs.Over.{infinity}
-use Rattle.hypot2.proofs.Nearest.{hypot2-nearest}
-use Rattle.hypot2.proofs.Patterns.{bitsOf, infinite-left, infinite-right, nan-left, nan-right, both-finite}
+use Rattle.nearest.specs.Over.{infinity}
+use Rattle.nearest.specs.Nearest.{hypot2-nearest}
+use Rattle.nearest.specs.Patterns.{bitsOf, infinite-left, infinite-right, nan-left, nan-right, both-finite}
 use Rattle.hypot2.proofs.hypot2.Statement.{statement}
 use Rattle.hypot2.proofs.hypot2.Tie as tie
 

@@ -5,8 +5,8 @@ use Prim.Native.Nat.{ℕ, _-_, _*_, _%_, _^_, _<_, _≤_}
 use native.Mathlib.Omega.{arith}
 use borrow.Author.Needs.{needs}
 use lib.Ieee.{binary64, ofBits}
-use Rattle.hypot2.specs.Parts.{low}
-use Rattle.hypot2.proofs.Working.{parts, power, power-le, divides, root-lt, small, far-off, near, rounded-le}
+use Rattle.rounding.specs.Parts.{low}
+use Rattle.nearest.specs.Working.{parts, power, power-le, divides, root-lt, small, far-off, near, rounded-le}
 use Rattle.hypot2.proofs.length.Statement.{statement}
 use Rattle.hypot2.proofs.length.Tie as tie
 

@@ -5,7 +5,7 @@ use borrow.Author.Needs.{needs}
 use mathlib.Core.Bool.{Bool, not}
 use lib.Dec.{T}
 use lib.Ieee.{binary64, toBits}
-use Rattle.hypot2.proofs.Patterns.{no-nan-of, nan-of}
+use Rattle.nearest.specs.Patterns.{no-nan-of, nan-of}
 use Rattle.hypot2.proofs.pattern.Statement.{statement}
 use Rattle.hypot2.proofs.pattern.Tie as tie
 

@@ -1,7 +1,7 @@
 -- Generated from the answers file beside it by tools/prove/prove.py: edit that.
 -- `hypot2::whole_root` meets its contract.
 use native.Mathlib.Omega.{arith}
-use Rattle.hypot2.proofs.Working.{more, first-lt}
+use Rattle.nearest.specs.Working.{more, first-lt}
 use Rattle.hypot2.proofs.whole_root.Statement.{statement}
 use Rattle.hypot2.proofs.whole_root.Tie as tie
 

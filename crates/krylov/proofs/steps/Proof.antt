@@ -9,7 +9,7 @@ use Rattle.grid.specs.Loop.{upto}
 use Rattle.grid.specs.LoopLaws.{start, next, done}
 use mathlib.Core.Bool.{true}
 use Rattle.answers.specs.Answers as Answers
-use Rattle.symmetric.specs.Sides.{Mirror}
+use Rattle.symmetric.specs.Symmetry.{Mirror}
 use Rattle.stepend.specs.End.{went}
 use Rattle.krylov.specs.Krylov.{turn, steps}
 use Rattle.krylov.proofs.steps.Statement.{statement}

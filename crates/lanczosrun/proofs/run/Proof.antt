@@ -7,7 +7,7 @@ use denote.Ref.{now}
 use lib.Seq.{length-take-le}
 use borrow.Author.Tests.{not-true, not-false}
 use Rattle.lanczosrun.specs.Run.{ran}
-use Rattle.lanczosrun.specs.Sizes.{some-steps, room-of}
+use Rattle.lanczoschecks.specs.Sizes.{some-steps, room-of}
 use Rattle.lanczosrun.proofs.run.Statement.{statement}
 use Rattle.lanczosrun.proofs.run.Tie as tie
 

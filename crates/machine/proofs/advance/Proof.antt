@@ -5,9 +5,9 @@ use native.Mathlib.Omega.{arith}
 use borrow.Author.Needs.{needs}
 use borrow.Author.Tests.{lt-ltb, le-ltb}
 use denote.Ref.{now}
-use Rattle.turns.specs.Bounds.{one-pass}
+use Rattle.turnends.specs.Bounds.{one-pass}
 use Rattle.machine.specs.Machine.{step}
-use Rattle.machine.specs.Walk.{found-ready, room}
+use Rattle.settled.specs.Walk.{found-ready, room}
 use Rattle.machine.proofs.advance.Statement.{statement}
 use Rattle.machine.proofs.advance.Tie as tie
 

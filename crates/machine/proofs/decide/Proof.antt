@@ -4,7 +4,7 @@ use native.Mathlib.Omega.{arith}
 use borrow.Author.Needs.{needs}
 use mathlib.Core.List.{[]}
 use Rattle.machine.specs.Machine.{decided}
-use Rattle.machine.specs.Walk.{closed-at}
+use Rattle.settled.specs.Walk.{closed-at}
 use Rattle.machine.proofs.decide.Statement.{statement}
 use Rattle.machine.proofs.decide.Tie as tie
 

@@ -26,7 +26,7 @@ element-copy-out-c : tie.Need-element-copy-out-c Inv-loop μ-loop
 element-copy-out-c c = omega arith
 
 pair-requires : tie.Need-pair-requires Inv-loop μ-loop
-pair-requires c κs = (omega arith, omega arith, c .before .before .before .before .before .before .before .before .before .before .pre .4 (c .before .before .before .before .loop .t) (omega arith), omega arith, omega arith, omega arith, omega arith, omega arith)
+pair-requires c κs = (omega arith, omega arith, omega arith, omega arith, c .before .before .before .before .before .before .before .before .before .before .pre .5 (c .before .before .before .before .loop .t) (omega arith), omega arith, omega arith, omega arith, omega arith, omega arith)
 
 add-t : tie.Need-add-t Inv-loop μ-loop
 add-t c = omega arith

@@ -6,7 +6,7 @@ use lib.ListN.{length}
 use borrow.Author.Tests.{eq-eqb, ne-eqb, not-false}
 use denote.Ref.{now}
 use lib.Dec.{eqb}
-use Rattle.answers.specs.Answers.{lengths}
+use Rattle.checks.specs.Checks.{lengths}
 use Rattle.runchecks.specs.Checks.{inRange, sound, checked}
 use Rattle.runchecks.specs.CheckLaws.{sound-room, holds, fails}
 use Rattle.runchecks.proofs.checked.Statement.{statement}

@@ -4,8 +4,8 @@ use Prim.Native.Nat.{_+_, _*_}
 use native.Mathlib.Omega.{arith}
 use borrow.Author.Needs.{needs}
 use borrow.Author.Tests.{lt-leb, le-leb, lt-ltb, le-ltb, eq-eqb, ne-eqb, not-false}
-use Rattle.answers.specs.Answers.{limitGood, editionGood}
 use Rattle.answers.specs.AnswersLaws.{product-le}
+use Rattle.checks.specs.Checks.{limitGood, editionGood}
 use Rattle.runchecks.specs.Checks.{inRange}
 use Rattle.runchecks.specs.CheckLaws.{limit-within, holds, fails}
 use Rattle.runchecks.proofs.in_range.Statement.{statement}

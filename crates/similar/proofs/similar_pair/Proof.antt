@@ -1,7 +1,7 @@
 -- Generated from the answers file beside it by tools/prove/prove.py: edit that.
 -- `similar::similar_pair` meets its contract.
 use native.Mathlib.Omega.{arith}
-use Rattle.similar.specs.Pairs.{pairStep}
+use Rattle.pairs.specs.Pairs.{pairStep}
 use Rattle.similar.proofs.similar_pair.Statement.{statement}
 use Rattle.similar.proofs.similar_pair.Tie as tie
 

@@ -2,7 +2,7 @@
 -- `sums::lifted` meets its contract.
 use mathlib.Core.Path.{_∙_}
 use borrow.Author.Needs.{needs}
-use Rattle.sums.specs.Range.{product-fits}
+use Rattle.wholes.specs.Range.{product-fits}
 use Rattle.sums.specs.Lifts.{Lift, lifted-fits, cast-fits, cast-is}
 use Rattle.sums.proofs.lifted.Statement.{statement}
 use Rattle.sums.proofs.lifted.Tie as tie

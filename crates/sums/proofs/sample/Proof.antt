@@ -3,7 +3,7 @@
 use native.Mathlib.Omega.{arith}
 use borrow.Author.Needs.{needs}
 use borrow.Author.Needs.{sfits-of}
-use Rattle.sums.specs.Range.{held-i16}
+use Rattle.wholes.specs.Range.{held-i16}
 use Rattle.sums.proofs.sample.Statement.{statement}
 use Rattle.sums.proofs.sample.Tie as tie
 

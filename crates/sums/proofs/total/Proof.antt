@@ -10,7 +10,7 @@ use lib.IntN.{ℤ, pos, _+ℤ_}
 use native.Mathlib.Nat.{le-antisymm}
 use mir.Syntax.{w64}
 use mir.Val.{toZ}
-use Rattle.sums.specs.Range.{Range, zero-in, sum-fits, sum-is, sum-in}
+use Rattle.wholes.specs.Range.{Range, zero-in, sum-fits, sum-is, sum-in}
 use Rattle.sums.specs.Sums.{sampleAt, total}
 use Rattle.sums.proofs.total.Statement.{statement}
 use Rattle.sums.proofs.total.Tie as tie

@@ -5,7 +5,7 @@ use mir.Syntax.{w16, w64}
 use mir.Val.{toZ, ofZ}
 use lib.IntN.{ℤ}
 use mir.Facts.{toZ-ofZ, sfits-widen}
-use Rattle.sums.specs.Range.{of-i16}
+use Rattle.wholes.specs.Range.{of-i16}
 use Rattle.sums.proofs.wide.Statement.{statement}
 use Rattle.sums.proofs.wide.Tie as tie
 

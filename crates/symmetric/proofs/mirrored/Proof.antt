@@ -1,22 +1,15 @@
 -- Generated from the answers file beside it by tools/prove/prove.py: edit that.
 -- `symmetric::mirrored` meets its contract.
-use mathlib.Core.Path.{sym, subst}
-use Prim.Native.Nat.{ℕ, _+_, _-_, _<_, _≤_}
+use mathlib.Core.Path.{sym}
+use Prim.Native.Nat.{ℕ, _-_, _<_, _≤_}
 use native.Mathlib.Omega.{arith}
 use borrow.Author.Needs.{needs}
-use mathlib.Core.Bool.{true, false, true≢false}
-use native.Mathlib.Decide.{ℕ-discrete}
-use Rattle.symmetric.specs.Sides.{Row, mirror-of}
-use borrow.Author.Tests.{not-true, not-false}
+use mathlib.Core.Bool.{true, true≢false}
+use Rattle.symmetric.specs.Symmetry.{Row, mirror-of, four-rows}
+use borrow.Author.Tests.{not-false}
 use denote.Ref.{now}
 use Rattle.symmetric.proofs.mirrored.Statement.{statement}
 use Rattle.symmetric.proofs.mirrored.Tie as tie
-
-one-further : (P : ℕ → Type 0) (j : ℕ) → ((k : ℕ) → k < j → P k) → P j → (k : ℕ) → k < j + 1 → P k
-one-further P j h p k l = elim (ℕ-discrete k j) [
-  | yes e ↦ subst P (sym e) p
-  | no d ↦ h k (omega arith)
-]
 
 abbrev Inv-loop : tie.InvT-loop
 Inv-loop n a i₀ i = (i ≤ n) × ((k : ℕ) → k < i → Row n a k)
@@ -24,14 +17,20 @@ Inv-loop n a i₀ i = (i ≤ n) × ((k : ℕ) → k < i → Row n a k)
 abbrev μ-loop : tie.MeasureT-loop
 μ-loop n a i₀ i = n - i
 
+returns : tie.Need-returns Inv-loop μ-loop
+returns c = λ e. absurd (true≢false (sym e))
+
 loop-holds : tie.Need-loop-holds Inv-loop μ-loop
 loop-holds c = (omega arith, λ k l. absurd (omega arith))
 
-row-same-requires : tie.Need-row-same-requires Inv-loop μ-loop
-row-same-requires c κs = search needs
+add-loop : tie.Need-add-loop Inv-loop μ-loop
+add-loop c = omega arith
 
-returns : tie.Need-returns Inv-loop μ-loop
-returns c = λ e. absurd (true≢false (sym e))
+rows-same-requires : tie.Need-rows-same-requires Inv-loop μ-loop
+rows-same-requires c κs = search needs
+
+returns-2 : tie.Need-returns-2 Inv-loop μ-loop
+returns-2 c = λ e. absurd (true≢false (sym e))
 
 add-i : tie.Need-add-i Inv-loop μ-loop
 add-i c = omega arith
@@ -40,10 +39,13 @@ loop-less : tie.Need-loop-less Inv-loop μ-loop
 loop-less c = omega arith
 
 loop-again : tie.Need-loop-again Inv-loop μ-loop
-loop-again c = (omega arith, one-further (λ (k : ℕ). Row (c .before .before .before .before .before .args .n) (now (c .before .before .before .before .before .args .a)) k) (c .before .before .before .loop .i) (c .before .before .before .loop .inv .1) (c .before .row-same .ensures (not-false (c .before .row-same .result) (c .if1 .left))))
+loop-again c = (omega arith, four-rows (c .before .before .before .before .before .before .args .n) (now (c .before .before .before .before .before .before .args .a)) (c .before .before .before .loop .i) (c .before .before .before .loop .i) (omega arith) (c .before .before .before .loop .inv .1) (c .before .rows-same .ensures (not-false (c .before .rows-same .result) (c .if2 .left))))
 
-returns-2 : tie.Need-returns-2 Inv-loop μ-loop
-returns-2 c = λ e. mirror-of (c .before .before .before .args .n) (now (c .before .before .before .args .a)) (λ k l. c .before .loop .inv .1 k (omega (arith, l)))
+rows-same-requires-2 : tie.Need-rows-same-requires-2 Inv-loop μ-loop
+rows-same-requires-2 c κs = search needs
+
+returns-3 : tie.Need-returns-3 Inv-loop μ-loop
+returns-3 c = λ e. mirror-of (c .before .before .before .before .before .args .n) (now (c .before .before .before .before .before .args .a)) (λ k l. four-rows (c .before .before .before .before .before .args .n) (now (c .before .before .before .before .before .args .a)) (c .before .before .loop .i) (c .before .before .before .before .before .args .n - 4) (omega arith) (c .before .before .loop .inv .1) (c .rows-same2 .ensures e) k (omega (arith, l)))
 
 pub mirrored-spec : {M : Type 1} → statement M
 mirrored-spec =
@@ -51,10 +53,13 @@ mirrored-spec =
     (tie.spec
     Inv-loop
     μ-loop
-    loop-holds
-    row-same-requires
     returns
+    loop-holds
+    add-loop
+    rows-same-requires
+    returns-2
     add-i
     loop-less
     loop-again
-    returns-2)
+    rows-same-requires-2
+    returns-3)

@@ -2,11 +2,13 @@
 -- `symmetric::product` meets its contract.
 use native.Mathlib.Omega.{arith}
 use borrow.Author.Needs.{needs}
+use Rattle.symmetric.specs.Symmetry.{rows-are-product}
+use denote.Ref.{now}
 use Rattle.symmetric.proofs.product.Statement.{statement}
 use Rattle.symmetric.proofs.product.Tie as tie
 
-along-requires : tie.Need-along-requires
-along-requires c κs = (c .before .before .before .before .before .pre .0, c .before .before .before .before .before .pre .1 (c .before .if1 .taken), c .before .before .before .before .before .pre .2, c .before .before .before .before .before .pre .3, c .before .before .before .before .before .pre .4)
+sum-requires : tie.Need-sum-requires
+sum-requires c κs = search needs
 
 dots-requires : tie.Need-dots-requires
 dots-requires c κs = search needs
@@ -15,7 +17,7 @@ same-length : tie.Need-same-length
 same-length c = omega arith
 
 returns : tie.Need-returns
-returns c = c .before .before .along .ensures
+returns c = rows-are-product (c .before .before .before .before .before .before .before .before .args .n) (now (c .before .before .before .before .before .before .before .before .args .a)) (now (c .before .before .before .before .before .before .before .before .args .v)) (c .before .before .before .before .before .before .before .before .pre .1 (c .before .before .before .before .if1 .taken)) (c .before .before .sum .ensures)
 
 same-length-2 : tie.Need-same-length-2
 same-length-2 c = omega arith
@@ -25,4 +27,4 @@ returns-2 c = c .before .before .dots .ensures
 
 pub product-spec : {M : Type 1} → statement M
 product-spec =
-    tie.close (tie.spec along-requires dots-requires same-length returns same-length-2 returns-2)
+    tie.close (tie.spec sum-requires dots-requires same-length returns same-length-2 returns-2)

@@ -11,8 +11,10 @@ use Rattle.grid.specs.Real.{Vec}
 use Rattle.pass.specs.declared.Run.{Run}
 use Rattle.grid.specs.CellLaws.{Sized}
 use Rattle.pass.specs.Pass.{pass}
-use Rattle.turns.specs.Turns.{State, ended, iterated}
-use Rattle.turns.specs.Bounds.{Ready, Passed, one-pass}
+use Rattle.turnends.specs.TurnEnds.{State, ended}
+use Rattle.turns.specs.Turns.{iterated}
+use Rattle.turnends.specs.Bounds.{Passed, one-pass}
+use Rattle.turns.specs.Bounds.{Ready}
 use Rattle.grid.specs.Loop.{rounds}
 use Rattle.grid.specs.LoopLaws.{rounds-stop, rounds-more, rounds-done}
 use Rattle.turns.proofs.iterate.Statement.{statement}

@@ -7,7 +7,8 @@ use borrow.Author.Needs.{needs}
 use Rattle.grid.specs.Loop.{upto}
 use Rattle.grid.specs.LoopLaws.{start, next, done}
 use Rattle.grid.specs.CellLaws.{Sized}
-use Rattle.turns.specs.Turns.{State, turn, run}
+use Rattle.turnends.specs.TurnEnds.{State}
+use Rattle.turns.specs.Turns.{turn, run}
 use Rattle.turns.specs.Bounds.{turn-count}
 use Rattle.turns.proofs.run.Statement.{statement}
 use Rattle.turns.proofs.run.Tie as tie

@@ -4,7 +4,8 @@ use native.Mathlib.Omega.{arith}
 use borrow.Author.Needs.{needs}
 use borrow.Author.Tests.{eq-eqb, ne-eqb}
 use Rattle.turns.specs.Turns.{stage, turn}
-use Rattle.turns.specs.Bounds.{opened-ready, opened-l, iterated-l}
+use Rattle.turnends.specs.Bounds.{opened-l}
+use Rattle.turns.specs.Bounds.{opened-ready, iterated-l}
 use Rattle.turns.proofs.turn.Statement.{statement}
 use Rattle.turns.proofs.turn.Tie as tie
 

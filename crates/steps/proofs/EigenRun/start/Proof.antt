@@ -6,7 +6,7 @@ use borrow.Author.Needs.{needs}
 use borrow.Author.Tests.{lt-ltb, le-ltb, eq-eqb, ne-eqb}
 use Rattle.answers.specs.AnswersLaws.{product-le}
 use Rattle.answers.specs.declared.Answer.{Answer}
-use Rattle.answers.specs.EditionLaws.{fitting-edition-right}
+use Rattle.checks.specs.EditionLaws.{fitting-edition-right}
 use Rattle.steps.specs.Steps.{started}
 use Rattle.steps.proofs.EigenRun.start.Statement.{statement}
 use Rattle.steps.proofs.EigenRun.start.Tie as tie

@@ -4,7 +4,7 @@ use native.Mathlib.Omega.{arith}
 use borrow.Author.Needs.{needs}
 use borrow.Author.Tests.{eq-eqb, ne-eqb}
 use Rattle.steps.specs.Steps.{stepped}
-use Rattle.steps.specs.Left.{checked-past}
+use Rattle.runfinish.specs.Past.{checked-past}
 use Rattle.steps.proofs.EigenRun.step.Statement.{statement}
 use Rattle.steps.proofs.EigenRun.step.Tie as tie
 

@@ -1,0 +1,2 @@
+-- AfterTred: mark 0, and the run after tred2.
+pub mod AfterTred

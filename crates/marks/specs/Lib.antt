@@ -1,0 +1,2 @@
+-- What the marks of a run of one-sided Jacobi look at.
+pub mod Marks

@@ -1,0 +1,2 @@
+-- QlEnd: mark 2, the answer of a run, and the sort.
+pub mod QlEnd

@@ -1,0 +1,2 @@
+-- Readied: a run made ready for its first l.
+pub mod Readied

@@ -1,0 +1,2 @@
+-- What the parts of `hypot2` compute.
+pub mod Parts

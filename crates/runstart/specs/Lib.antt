@@ -1,0 +1,2 @@
+-- Begun: what a start comes to.
+pub mod Begun

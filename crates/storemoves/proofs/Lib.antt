@@ -1,0 +1,2 @@
+-- What a removal comes to.
+pub mod Removed

@@ -1,0 +1,102 @@
+-- Generated from the answers file beside it by tools/prove/prove.py: edit that.
+-- `symmetric::four_same` meets its contract.
+use native.Mathlib.Omega.{arith}
+use borrow.Author.Needs.{needs}
+use mathlib.Core.Bool.{Bool, true, _&&_}
+use mathlib.Core.Path.{_≡_, sym, _∙_}
+use Prim.Native.Nat.{ℕ, _+_}
+use lib.Ieee.{Float}
+use Rattle.grid.specs.Real.{Vec}
+use Rattle.grid.specs.Cell.{entry}
+use Rattle.symmetric.specs.Symmetry.{Fours, both}
+use denote.Ref.{now}
+use Rattle.symmetric.proofs.four_same.Statement.{statement}
+use Rattle.symmetric.proofs.four_same.Tie as tie
+
+-- two numbers that were read, and are the same where p says so
+told : (p : Bool) (x y u v : Float) → (p ≡ true → x ≡ y) → x ≡ u → y ≡ v → p ≡ true → u ≡ v
+told p x y u v h e g t = sym e ∙ h t ∙ g
+
+all-four : (n : ℕ) (a : Vec) (i j : ℕ) (p q r s : Bool) → (p ≡ true → entry a n i j ≡ entry a n j i) → (q ≡ true → entry a n (i + 1) j ≡ entry a n j (i + 1)) → (r ≡ true → entry a n (i + 2) j ≡ entry a n j (i + 2)) → (s ≡ true → entry a n (i + 3) j ≡ entry a n j (i + 3)) → (p && q && r && s) ≡ true → Fours n a i j
+all-four n a i j p q r s e f g h t = record { first = e (both p q (both (p && q) r (both (p && q && r) s t .0) .0) .0); second = f (both p q (both (p && q) r (both (p && q && r) s t .0) .0) .1); third = g (both (p && q) r (both (p && q && r) s t .0) .1); fourth = h (both (p && q && r) s t .1) }
+
+entry-requires : tie.Need-entry-requires
+entry-requires c κs = search needs
+
+entry-requires-2 : tie.Need-entry-requires-2
+entry-requires-2 c κs = search needs
+
+same-requires : tie.Need-same-requires
+same-requires c κs = search needs
+
+add-entry : tie.Need-add-entry
+add-entry c = omega arith
+
+entry-requires-3 : tie.Need-entry-requires-3
+entry-requires-3 c κs = search needs
+
+add-entry-2 : tie.Need-add-entry-2
+add-entry-2 c = omega arith
+
+entry-requires-4 : tie.Need-entry-requires-4
+entry-requires-4 c κs = search needs
+
+same-requires-2 : tie.Need-same-requires-2
+same-requires-2 c κs = search needs
+
+add-entry-3 : tie.Need-add-entry-3
+add-entry-3 c = omega arith
+
+entry-requires-5 : tie.Need-entry-requires-5
+entry-requires-5 c κs = search needs
+
+add-entry-4 : tie.Need-add-entry-4
+add-entry-4 c = omega arith
+
+entry-requires-6 : tie.Need-entry-requires-6
+entry-requires-6 c κs = search needs
+
+same-requires-3 : tie.Need-same-requires-3
+same-requires-3 c κs = search needs
+
+add-entry-5 : tie.Need-add-entry-5
+add-entry-5 c = omega arith
+
+entry-requires-7 : tie.Need-entry-requires-7
+entry-requires-7 c κs = search needs
+
+add-entry-6 : tie.Need-add-entry-6
+add-entry-6 c = omega arith
+
+entry-requires-8 : tie.Need-entry-requires-8
+entry-requires-8 c κs = search needs
+
+same-requires-4 : tie.Need-same-requires-4
+same-requires-4 c κs = search needs
+
+returns : tie.Need-returns
+returns c = all-four (c .before .before .before .before .before .before .before .before .before .before .before .before .before .args .n) (now (c .before .before .before .before .before .before .before .before .before .before .before .before .before .args .a)) (c .before .before .before .before .before .before .before .before .before .before .before .before .before .args .i) (c .before .before .before .before .before .before .before .before .before .before .before .before .before .args .j) (c .before .before .before .before .before .before .before .before .before .same .result) (c .before .before .before .before .before .before .same2 .result) (c .before .before .before .same3 .result) (c .same4 .result) (told _ _ _ _ _ (c .before .before .before .before .before .before .before .before .before .same .ensures) (c .before .before .before .before .before .before .before .before .before .before .before .entry .ensures) (c .before .before .before .before .before .before .before .before .before .before .entry2 .ensures)) (told _ _ _ _ _ (c .before .before .before .before .before .before .same2 .ensures) (c .before .before .before .before .before .before .before .before .entry3 .ensures) (c .before .before .before .before .before .before .before .entry4 .ensures)) (told _ _ _ _ _ (c .before .before .before .same3 .ensures) (c .before .before .before .before .before .entry5 .ensures) (c .before .before .before .before .entry6 .ensures)) (told _ _ _ _ _ (c .same4 .ensures) (c .before .before .entry7 .ensures) (c .before .entry8 .ensures))
+
+pub four-same-spec : {M : Type 1} → statement M
+four-same-spec =
+    tie.close
+    (tie.spec
+    entry-requires
+    entry-requires-2
+    same-requires
+    add-entry
+    entry-requires-3
+    add-entry-2
+    entry-requires-4
+    same-requires-2
+    add-entry-3
+    entry-requires-5
+    add-entry-4
+    entry-requires-6
+    same-requires-3
+    add-entry-5
+    entry-requires-7
+    add-entry-6
+    entry-requires-8
+    same-requires-4
+    returns)

@@ -1,0 +1,2 @@
+-- Tri: the tridiagonal matrix of Lanczos.
+pub mod Tri
