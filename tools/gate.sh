@@ -1,13 +1,13 @@
 #!/bin/sh
 # gate.sh TARGET.. -- TARGET..: the merge gate. The kit, the layout and the first make targets; rt ci, which proves everything from nothing;
 # then the other targets, over what it proved. rt's own line, 'N passed, 0 failed', is written last and only if all of it passed: where rt ci writes it, it stands
-# behind 'rt ci: ', so that a gate that fails has no such line. RT_JOBS is how many crates rt works on at a time: twice as many as there are processors, since it waits for the
-# slowest of each batch.
+# behind 'rt ci: ', so that a gate that fails has no such line. RT_JOBS is how many crates rt works on at a time: on one or two
+# processors twice as many, since it waits for the slowest of each batch; on more what rt itself takes, four, each of which may need 2.4 GB.
 set -u
 cd "$(dirname "$0")/.."
 RT=${RT:-rt} MAKE=${MAKE:-make}
 processors=$(nproc 2>/dev/null || echo 1)
-export RT_JOBS="${RT_JOBS:-$((2 * processors))}"
+[ "$processors" -gt 2 ] || export RT_JOBS="${RT_JOBS:-$((2 * processors))}"
 log=build/gate.log
 began=$(date +%s)
 
