@@ -33,15 +33,14 @@ abbrev pub refusal7 : Bad → Answer
 refusal7 (At k c) = refused 7 k
 refusal7 Nowhere = done 0
 
+-- refusal 7, or else the rest, where x is the one array that the refusal fills with +0.0
+abbrev pub unlessBad : Bad → Vec → Answer × Vec → Answer × Vec
+unlessBad b x rest = cond (passed (refusal7 b)) rest (emptied (refusal7 b) x)
+
 -- what a mark answers after so many passes or sweeps: 8 or 10 by the class of the first number that is not finite, and its index, or else the pass
 abbrev pub marked : ℕ → ℕ → Bad → Answer
 marked mark count (At k c) = answered c mark k count
 marked mark count Nowhere = done count
-
--- or else the rest, where x is the one array that the refusal fills with +0.0
-abbrev pub unlessBad : Bad → Vec → Answer × Vec → Answer × Vec
-unlessBad (At k c) x rest = emptied (refused 7 k) x
-unlessBad Nowhere x rest = rest
 
 -- r, the smaller of m and n
 unfoldable pub least : ℕ → ℕ → ℕ

@@ -12,9 +12,9 @@ use Rattle.root.specs.Root.{root}
 use Rattle.answers.specs.Answers.{passed, least}
 use Rattle.sweep.specs.declared.Sums.{Sums}
 use Rattle.sweep.specs.declared.Rotation.{Rotation}
-use Rattle.sweep.specs.Sweep.{uAt, gramStep, gram, skipped, rotationOf, turnStep, pairDone, pairsOf}
+use Rattle.sweep.specs.Sweep.{uAt, gramStep, gram, skipped, rotationOf, rotateStep, pairDone, pairsOf}
 use Rattle.values.specs.Values.{normStep, normSq, normalStep}
-use Rattle.jacobi.specs.Jacobi.{going, swept, ended, sweeps}
+use Rattle.jacobi.specs.Jacobi.{goingAfter, swept, ended, sweeps}
 use Rattle.sorted.specs.Result.{longest}
 use Rattle.plain.specs.Exact.{Taken, begun}
 use Rattle.gain.specs.Scale.{fine, Product}
@@ -45,7 +45,7 @@ pub record RotationFine (x : Sums) : Type 0 where
   pub difference : T (fine (x .beta ⊖ x .alpha))
   pub twice : Product two64 (x .gamma)
 
--- turn i of the rotation of the columns at a and b, `turnStep`: for each of the two numbers both products, and their difference or sum
+-- turn i of the rotation of the columns at a and b, `rotateStep`: for each of the two numbers both products, and their difference or sum
 pub record TurnFine (a b : ℕ) (r : Rotation) (i : ℕ) (w : Vec) : Type 0 where
   pub cp : Product (r .c) (at w (a + i))
   pub sq : Product (r .s) (at w (b + i))
@@ -57,13 +57,13 @@ pub record TurnFine (a b : ℕ) (r : Rotation) (i : ℕ) (w : Vec) : Type 0 wher
 abbrev pub gramOf : ℕ → ℕ → ℕ → Vec → Sums
 gramOf rows p q w = gram (uAt rows p) (uAt rows q) rows w
 
--- columns p and q: `pairDone`. Those of the second factor are turned too, but by the same rotation in both runs
+-- columns p and q: `pairDone`. Those of the second factor are rotated too, but by the same numbers in both runs
 pub record PairFine (rows cols p q : ℕ) (x : Bool × Vec) : Type 0 where
   pub sums : Along (gramStep (uAt rows p) (uAt rows q) (x .1)) (GramFine (uAt rows p) (uAt rows q) (x .1)) 0 rows nothing
   pub skip : SkipFine (gramOf rows p q (x .1))
   pub rotation : skipped (gramOf rows p q (x .1)) ≡ false → RotationFine (gramOf rows p q (x .1))
   pub turn : skipped (gramOf rows p q (x .1)) ≡ false
-      → Along (turnStep (uAt rows p) (uAt rows q) (rotationOf (gramOf rows p q (x .1)))) (TurnFine (uAt rows p) (uAt rows q) (rotationOf (gramOf rows p q (x .1)))) 0 rows (x .1)
+      → Along (rotateStep (uAt rows p) (uAt rows q) (rotationOf (gramOf rows p q (x .1)))) (TurnFine (uAt rows p) (uAt rows q) (rotationOf (gramOf rows p q (x .1)))) 0 rows (x .1)
 
 -- ---- the sweeps: `pairsOf`, `sweep`, `sweeps`
 
@@ -75,7 +75,7 @@ SweepFine rows cols w = Along (pairsOf rows cols) (PairsFine rows cols) 0 cols (
 
 -- each sweep that is run
 abbrev pub SweepsFine : ℕ → ℕ → ℕ → Vec → Type 0
-SweepsFine rows cols limit w = Rounds (swept rows cols) ended (λ x. SweepFine rows cols (x .1)) limit (going 0, w)
+SweepsFine rows cols limit w = Rounds (swept rows cols) ended (λ x. SweepFine rows cols (x .1)) limit (goingAfter 0, w)
 
 -- ---- the values
 

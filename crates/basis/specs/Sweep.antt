@@ -10,7 +10,7 @@ use Rattle.leaves.specs.declared.Bad.{Bad}
 use Rattle.answers.specs.declared.Answer.{Answer}
 use Rattle.sweep.specs.Sweep.{pairDone, pairsOf, sweep}
 use Rattle.marks.specs.Marks.{factorsBad}
-use Rattle.jacobi.specs.Jacobi.{going, verdict, swept, ended, sweeps}
+use Rattle.jacobi.specs.Jacobi.{goingAfter, verdict, swept, ended, sweeps}
 use Rattle.gain.specs.Alike.{Alike, under}
 use Rattle.gain.specs.AlongLaws.{along-both, rounds-both}
 use Rattle.gain.specs.Found.{Match, match, match-take, match-drop, pair-same}
@@ -64,5 +64,5 @@ pub sweeps-runs : (k rows cols limit : ℕ) (w v : Vec) → SweepsFine rows cols
     → Runs k (rows * cols) (sweeps rows cols limit w) (sweeps rows cols limit v)
 unfolding sweeps
 sweeps-runs k rows cols limit w v f g h =
-    rounds-both (Runs k (rows * cols)) (swept rows cols) ended (λ x. SweepFine rows cols (x .1)) limit (going 0, w) (going 0, v) f g
+    rounds-both (Runs k (rows * cols)) (swept rows cols) ended (λ x. SweepFine rows cols (x .1)) limit (goingAfter 0, w) (goingAfter 0, v) f g
     (swept-runs k rows cols) (λ x y r. ap (λ (a : Answer). not (eqb (a .answer) 9)) (r .answers)) (record { answers = refl; both = h })

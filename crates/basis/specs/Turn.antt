@@ -14,7 +14,7 @@ use Rattle.root.specs.Root.{root}
 use Rattle.leaves.specs.Leaf.{magnitude}
 use Rattle.sweep.specs.declared.Sums.{Sums}
 use Rattle.sweep.specs.declared.Rotation.{Rotation}
-use Rattle.sweep.specs.Sweep.{uAt, vAt, gramStep, gram, skipped, signOf, rotationOf, turnStep, turned, pairDone}
+use Rattle.sweep.specs.Sweep.{uAt, vAt, gramStep, gram, skipped, signOf, rotationOf, rotateStep, rotated, pairDone}
 use Rattle.grid.specs.TableLaws.{row-end}
 use Rattle.gain.specs.Scale.{scale, Scaled}
 use Rattle.gain.specs.Compare.{eq-scaled, le-scaled, magnitude-scaled}
@@ -107,13 +107,13 @@ rotation-same k x y h f g = ap by zeta
 -- ---- the turning
 
 -- of columns that differ by 2 ^ k
-turned-alike : (κ : ℕ → ℕ) (k a b rows : ℕ) (r : Rotation) (w v : Vec) → ((i : ℕ) → i < rows → κ (a + i) ≡ k) → ((i : ℕ) → i < rows → κ (b + i) ≡ k)
-    → Along (turnStep a b r) (TurnFine a b r) 0 rows w → Along (turnStep a b r) (TurnFine a b r) 0 rows v → Alike κ w v → Alike κ (turned a b rows r w) (turned a b rows r v)
-unfolding turned
-turned-alike κ k a b rows r w v p q f g =
-    along-both (λ j x y. Alike κ x y) (turnStep a b r) (turnStep a b r) (TurnFine a b r) (TurnFine a b r) 0 rows w v (omega arith) f g turn
+rotated-alike : (κ : ℕ → ℕ) (k a b rows : ℕ) (r : Rotation) (w v : Vec) → ((i : ℕ) → i < rows → κ (a + i) ≡ k) → ((i : ℕ) → i < rows → κ (b + i) ≡ k)
+    → Along (rotateStep a b r) (TurnFine a b r) 0 rows w → Along (rotateStep a b r) (TurnFine a b r) 0 rows v → Alike κ w v → Alike κ (rotated a b rows r w) (rotated a b rows r v)
+unfolding rotated
+rotated-alike κ k a b rows r w v p q f g =
+    along-both (λ j x y. Alike κ x y) (rotateStep a b r) (rotateStep a b r) (TurnFine a b r) (TurnFine a b r) 0 rows w v (omega arith) f g turn
   where
-    turn : (i : ℕ) (x y : Vec) → 0 ≤ i → i < rows → TurnFine a b r i x → TurnFine a b r i y → Alike κ x y → Alike κ (turnStep a b r i x) (turnStep a b r i y)
+    turn : (i : ℕ) (x y : Vec) → 0 ≤ i → i < rows → TurnFine a b r i x → TurnFine a b r i y → Alike κ x y → Alike κ (rotateStep a b r i x) (rotateStep a b r i y)
     turn i x y _ l c d h =
         let up = at x (a + i) in
         let uq = at x (b + i) in
@@ -124,12 +124,12 @@ turned-alike κ k a b rows r w v p q f g =
         alike-set κ _ _ (b + i) _ (alike-set κ x y (a + i) _ h (powered (r .c ⊗ up ⊖ r .s ⊗ uq) (sym (p i l)) first)) (powered (r .s ⊗ up ⊕ r .c ⊗ uq) (sym (q i l)) second)
 
 -- of columns that are the same
-turned-same : (κ : ℕ → ℕ) (a b rows : ℕ) (r : Rotation) (w v : Vec) → ((i : ℕ) → i < rows → κ (a + i) ≡ 0) → ((i : ℕ) → i < rows → κ (b + i) ≡ 0)
-    → Alike κ w v → Alike κ (turned a b rows r w) (turned a b rows r v)
-unfolding turned
-turned-same κ a b rows r w v p q = upto-keeps (λ x y. Alike κ x y) (turnStep a b r) (turnStep a b r) 0 rows w v turn
+rotated-same : (κ : ℕ → ℕ) (a b rows : ℕ) (r : Rotation) (w v : Vec) → ((i : ℕ) → i < rows → κ (a + i) ≡ 0) → ((i : ℕ) → i < rows → κ (b + i) ≡ 0)
+    → Alike κ w v → Alike κ (rotated a b rows r w) (rotated a b rows r v)
+unfolding rotated
+rotated-same κ a b rows r w v p q = upto-keeps (λ x y. Alike κ x y) (rotateStep a b r) (rotateStep a b r) 0 rows w v turn
   where
-    turn : (i : ℕ) (x y : Vec) → 0 ≤ i → i < rows → Alike κ x y → Alike κ (turnStep a b r i x) (turnStep a b r i y)
+    turn : (i : ℕ) (x y : Vec) → 0 ≤ i → i < rows → Alike κ x y → Alike κ (rotateStep a b r i x) (rotateStep a b r i y)
     turn i x y _ l h =
         let ep : at y (a + i) ≡ at x (a + i) = equal (at x (a + i)) (κ (a + i)) (p i l) (h .each (a + i)) in
         let eq : at y (b + i) ≡ at x (b + i) = equal (at x (b + i)) (κ (b + i)) (q i l) (h .each (b + i)) in
@@ -173,7 +173,7 @@ pair-level k rows cols p q x y P Q f g h = go (skipped gx) refl
     same = skipped-same (k + k) gx gy sums (f .skip) (g .skip)
 
     turn : Rotation → Vec → Vec
-    turn r w = turned (vAt rows cols p) (vAt rows cols q) cols r (turned (uAt rows p) (uAt rows q) rows r w)
+    turn r w = rotated (vAt rows cols p) (vAt rows cols q) cols r (rotated (uAt rows p) (uAt rows q) rows r w)
 
     go : (b : Bool) → skipped gx ≡ b
         → Level k n (cond (skipped gx) x (true, turn (rotationOf gx) (x .1))) (cond (skipped gy) y (true, turn (rotationOf gy) (y .1)))
@@ -181,11 +181,11 @@ pair-level k rows cols p q x y P Q f g h = go (skipped gx) refl
     go false e =
         let e' : skipped gy ≡ false = same ∙ e in
         let rot : rotationOf gy ≡ rotationOf gx = rotation-same (k + k) gx gy sums (f .rotation e) (g .rotation e') in
-        let along = subst (λ (r : Rotation). Along (turnStep (uAt rows p) (uAt rows q) r) (TurnFine (uAt rows p) (uAt rows q) r) 0 rows (y .1)) rot (g .turn e') in
+        let along = subst (λ (r : Rotation). Along (rotateStep (uAt rows p) (uAt rows q) r) (TurnFine (uAt rows p) (uAt rows q) r) 0 rows (y .1)) rot (g .turn e') in
         rw (same, e, rot)
         (record {
           flag = refl;
           both =
-              turned-same (under k n) (vAt rows cols p) (vAt rows cols q) cols (rotationOf gx) _ _ (λ i _. outside p i) (λ i _. outside q i)
-              (turned-alike (under k n) k (uAt rows p) (uAt rows q) rows (rotationOf gx) (x .1) (y .1) (λ i l. inside p i P l) (λ i l. inside q i Q l) (f .turn e) along (h .both));
+              rotated-same (under k n) (vAt rows cols p) (vAt rows cols q) cols (rotationOf gx) _ _ (λ i _. outside p i) (λ i _. outside q i)
+              (rotated-alike (under k n) k (uAt rows p) (uAt rows q) rows (rotationOf gx) (x .1) (y .1) (λ i l. inside p i P l) (λ i l. inside q i Q l) (f .turn e) along (h .both));
         })

@@ -12,7 +12,7 @@ use Rattle.answers.specs.Answers.{least}
 use Rattle.answers.specs.AnswersLaws.{least-le, product-le}
 use Rattle.octets.specs.Bytes.{num}
 use Rattle.block.specs.Content.{size}
-use Rattle.block.specs.Reading.{orElse, dimensions, headAnswer, entryAnswer, ended, entries, behind, answerOf}
+use Rattle.block.specs.Reading.{orElse, dimensions, headAnswer, entryAnswer, endAnswer, entries, behind, answerOf}
 
 pub size-most : (r c k : ℕ) → r ≤ 256 → c ≤ 256 → size r c k ≤ 65536
 unfolding size
@@ -94,8 +94,8 @@ pub entry-pass : (t : List ℕ) (r c at last off : ℕ) → headAnswer r c last 
 unfolding entryAnswer
 entry-pass t r c at last off h e = rw (h, eq-eqb (num 4 t (at + 4)) off e)
 
-pub ended-good : (len off : ℕ) → ended len off ≡ 0 → len ≡ off
-unfolding ended
+pub ended-good : (len off : ℕ) → endAnswer len off ≡ 0 → len ≡ off
+unfolding endAnswer
 ended-good len off = go (ltb len off) (ltb off len) refl refl
   where
     go : (x y : Bool) → ltb len off ≡ x → ltb off len ≡ y → _≡_ {A = ℕ} (cond x 20 (cond y 21 0)) 0 → len ≡ off
@@ -103,8 +103,8 @@ ended-good len off = go (ltb len off) (ltb off len) refl refl
     go false true a b h = absurd (omega arith)
     go false false a b h = le-antisymm (ltb-false off len b) (ltb-false len off a)
 
-pub ended-pass : (len off : ℕ) → len ≡ off → ended len off ≡ 0
-unfolding ended
+pub ended-pass : (len off : ℕ) → len ≡ off → endAnswer len off ≡ 0
+unfolding endAnswer
 ended-pass len off e = rw (le-ltb len off (omega arith), le-ltb off len (omega arith))
 
 -- ---- the reader's loop over the entries, n of them: what is left gives what the whole gives
@@ -129,7 +129,7 @@ entries-next t r c n i last off {a} {k} {s} h e z p q g =
     let f : 12 + 12 * (i + 1) ≡ 12 + 12 * i + 12 = omega arith in
     rw (f, q, p) (rw (m, ← e, eq-eqb a 0 z) at g)
 
-pub entries-done : (t : List ℕ) (r c n i last off : ℕ) {a R : ℕ} → n ≤ i → a ≡ ended (length t) off → entries t r c (n - i) (12 + 12 * i) last off ≡ R → a ≡ R
+pub entries-done : (t : List ℕ) (r c n i last off : ℕ) {a R : ℕ} → n ≤ i → a ≡ endAnswer (length t) off → entries t r c (n - i) (12 + 12 * i) last off ≡ R → a ≡ R
 unfolding entries
 entries-done t r c n i last off h e g =
     let k : n - i ≡ 0 = omega arith in

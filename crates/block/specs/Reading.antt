@@ -29,12 +29,12 @@ entryAnswer t rows columns at last off =
     orElse (headAnswer rows columns last (num 4 t at) (num 4 t (at + 8))) (cond (eqb (num 4 t (at + 4)) off) 0 24)
 
 -- 20 and 21 for a block of that length whose numbers end at off
-unfoldable pub ended : ℕ → ℕ → ℕ
-ended len off = cond (ltb len off) 20 (cond (ltb off len) 21 0)
+unfoldable pub endAnswer : ℕ → ℕ → ℕ
+endAnswer len off = cond (ltb len off) 20 (cond (ltb off len) 21 0)
 
 -- so many entries from `at` on, the numbers of the first starting at off, and what stands behind the last
 unfoldable pub entries : List ℕ → ℕ → ℕ → ℕ → ℕ → ℕ → ℕ → ℕ
-entries t rows columns zero at last off = ended (length t) off
+entries t rows columns zero at last off = endAnswer (length t) off
 entries t rows columns (suc left) at last off =
     orElse (entryAnswer t rows columns at last off) (entries t rows columns left (at + 12) (num 4 t at) (off + 8 * size rows columns (num 4 t at)))
 

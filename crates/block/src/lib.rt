@@ -4,7 +4,7 @@ ghost use Prim.Native.Nat.{_+_, _*_, _≤_};
 ghost use lib.ListN.{length};
 ghost use Rattle.answers.specs.Answers.{refused};
 ghost use Rattle.block.specs.Content.{size};
-ghost use Rattle.block.specs.Reading.{dimensions, headAnswer, entryAnswer, ended, entries, answerOf};
+ghost use Rattle.block.specs.Reading.{dimensions, headAnswer, entryAnswer, endAnswer, entries, answerOf};
 use answers::Answer;
 use answers::least;
 use answers::refused;
@@ -75,8 +75,8 @@ fn entry(t: &[u8], rows: usize, columns: usize, at: usize, last: usize, off: usi
 }
 
 // Refusals 20 and 21 for numbers that end at off, or 0.
-fn ended(len: usize, off: usize) -> usize
-    ensures { λ r. ⌜ r ≡ ended len off ⌝ }
+fn end(len: usize, off: usize) -> usize
+    ensures { λ r. ⌜ r ≡ endAnswer len off ⌝ }
 {
     if len < off {
         return 20; // the numbers are cut short
@@ -102,7 +102,7 @@ fn entries(t: &[u8], rows: usize, columns: usize, count: usize) -> usize
         last = number(t, 12 + 12 * i);
         off = off + 8 * size(rows, columns, last);
     }
-    ended(t.len(), off)
+    end(t.len(), off)
 }
 
 // The reader's answer as one number: 0 where the bytes are a block, else the refusal.

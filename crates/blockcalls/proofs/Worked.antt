@@ -6,7 +6,7 @@ use lib.ListN.{set, take}
 use Rattle.answers.specs.Answers.{least}
 use Rattle.octets.specs.Bytes.{be, three, wordsBytes, num, wordsAt}
 use Rattle.block.specs.Content.{Part, size, heads, entriesBytes, numbersBytes, blockOf}
-use Rattle.block.specs.Reading.{good, dimensions, headAnswer, entryAnswer, ended, entries, behind, answerOf, partsAt, reading}
+use Rattle.block.specs.Reading.{good, dimensions, headAnswer, entryAnswer, endAnswer, entries, behind, answerOf, partsAt, reading}
 use Rattle.blockread.specs.Held.{placeIn}
 use Rattle.blockread.specs.Lookup.{spanOf, lookup}
 use Rattle.blockentries.specs.Writing.{given, headsAnswer, checked, bytesOf, lengthWith, lengthOf}
@@ -28,7 +28,7 @@ unfolding blockOf heads entriesBytes numbersBytes wordsBytes three be
 block-written = refl
 
 pub block-read : reading block ≡ good 1 2 content
-unfolding reading answerOf behind dimensions entries entryAnswer headAnswer size least ended partsAt wordsAt num
+unfolding reading answerOf behind dimensions entries entryAnswer headAnswer size least endAnswer partsAt wordsAt num
 block-read = refl
 
 -- the answer with the byte at i set to x, and with the first n bytes alone
@@ -39,25 +39,25 @@ abbrev pub short : ℕ → ℕ
 short n = answerOf (take n block)
 
 pub cut-short : (short 0 ∷ short 11 ∷ short 12 ∷ short 35 ∷ short 36 ∷ short 59 ∷ short 60 ∷ []) ≡ (20 ∷ 20 ∷ 20 ∷ 20 ∷ 20 ∷ 20 ∷ 0 ∷ [])
-unfolding answerOf behind dimensions entries entryAnswer headAnswer size least ended num
+unfolding answerOf behind dimensions entries entryAnswer headAnswer size least endAnswer num
 cut-short = refl
 
 -- rows 257, four parts, kind 0, kind 4, a count of 2, an offset of 37, the kind 1 again
 pub refusals : (answer 2 1 ∷ answer 11 4 ∷ answer 15 0 ∷ answer 15 4 ∷ answer 23 2 ∷ answer 19 37 ∷ answer 27 1 ∷ []) ≡ (22 ∷ 22 ∷ 23 ∷ 23 ∷ 22 ∷ 24 ∷ 23 ∷ [])
-unfolding answerOf behind dimensions entries entryAnswer headAnswer size least ended num
+unfolding answerOf behind dimensions entries entryAnswer headAnswer size least endAnswer num
 refusals = refl
 
 pub bytes-over : answerOf (block ++ (0 ∷ [])) ≡ 21
-unfolding answerOf behind dimensions entries entryAnswer headAnswer size least ended num
+unfolding answerOf behind dimensions entries entryAnswer headAnswer size least endAnswer num
 bytes-over = refl
 
 -- the inverse, from this block where its own has none, and from none
 pub inverse-found : lookup [] block 3 ≡ wordsBytes (0x7ff8_0000_0000_0001 ∷ 0x8000_0000_0000_0000 ∷ [])
-unfolding lookup spanOf placeIn answerOf behind dimensions entries entryAnswer headAnswer size least ended num wordsBytes be
+unfolding lookup spanOf placeIn answerOf behind dimensions entries entryAnswer headAnswer size least endAnswer num wordsBytes be
 inverse-found = refl
 
 pub matrix-missing : lookup block [] 2 ≡ []
-unfolding lookup spanOf placeIn answerOf behind dimensions entries entryAnswer headAnswer size least ended num
+unfolding lookup spanOf placeIn answerOf behind dimensions entries entryAnswer headAnswer size least endAnswer num
 matrix-missing = refl
 
 -- the writer's order: rows before kinds, a part's kind before its count, the first part before the second

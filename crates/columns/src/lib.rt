@@ -4,7 +4,7 @@ ghost use mathlib.Core.Path.{_≡_};
 ghost use Prim.Native.Nat.{_+_, _*_, _/_, _<_};
 ghost use lib.ListN.{length};
 ghost use Rattle.grid.specs.Loop.{upto};
-ghost use Rattle.tred.specs.Tred.{columnOver, dot, takeOff, turnStep, turnColumns};
+ghost use Rattle.tred.specs.Tred.{columnOver, columnDot, takeOff, turnColumnStep, turnColumns};
 ghost use Rattle.columns.specs.Fours.{dots, fourTurns};
 use grid::at;
 use grid::at1;
@@ -28,9 +28,9 @@ pub fn column_over(n: usize, m: usize, h: f64, v: &[f64], d: &mut [f64])
     }
 }
 
-fn dot(n: usize, m: usize, j: usize, v: &[f64]) -> f64
+fn column_dot(n: usize, m: usize, j: usize, v: &[f64]) -> f64
     requires { ⌜ (m < n) × (j < n) × (length (now v) ≡ n * n) ⌝ }
-    ensures { λ r. ⌜ r ≡ dot n m j (now (v .entry)) ⌝ }
+    ensures { λ r. ⌜ r ≡ columnDot n m j (now (v .entry)) ⌝ }
 {
     let mut g = 0.0;
     for k in 0..m {
@@ -87,7 +87,7 @@ fn turn_four(n: usize, m: usize, j: usize, v: &mut [f64], d: &[f64])
 
 fn turn_fours(n: usize, m: usize, v: &mut [f64], d: &[f64])
     requires { ⌜ (m < n) × (length (now v) ≡ n * n) × (length (now d) ≡ n) ⌝ }
-    ensures { λ _. ⌜ now (v .exit) ≡ upto (turnStep n m (now (d .entry))) 0 (m / 4 * 4) (now (v .entry)) ⌝ }
+    ensures { λ _. ⌜ now (v .exit) ≡ upto (turnColumnStep n m (now (d .entry))) 0 (m / 4 * 4) (now (v .entry)) ⌝ }
 {
     for q in 0..m / 4 {
         turn_four(n, m, q * 4, v, d);
@@ -101,7 +101,7 @@ pub fn turn_columns(n: usize, m: usize, v: &mut [f64], d: &[f64])
 {
     turn_fours(n, m, v, d);
     for j in m / 4 * 4..m {
-        let g = dot(n, m, j, v);
+        let g = column_dot(n, m, j, v);
         take_off(n, m, j, g, v, d);
     }
 }

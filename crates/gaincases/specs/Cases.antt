@@ -13,7 +13,7 @@ use Rattle.leaves.specs.Leaf.{magnitude, isFinite}
 use Rattle.leaves.specs.Scan.{classOf, scan, placeOf, byRows}
 use Rattle.answers.specs.Answers.{least, present, decompositionLength}
 use Rattle.checks.specs.Checks.{limitGood, lengths}
-use Rattle.sweep.specs.Sweep.{gram, skipped, rotationOf, turned, pairDone, pairsOf, sweep}
+use Rattle.sweep.specs.Sweep.{gram, skipped, rotationOf, rotated, pairDone, pairsOf, sweep}
 use Rattle.marks.specs.Marks.{factorsBad, allBad}
 use Rattle.values.specs.Values.{normSq, divided, normalStep, normalised}
 use Rattle.jacobi.specs.Jacobi.{verdict, swept, sweeps, finished, jacobi}
@@ -27,11 +27,11 @@ use Rattle.gaincases.specs.Test.{productTest, every, along, roundsTest, 
 
 -- both factors wanted, the limit 60
 unfoldable pub tested : (Float → Bool) → Bool → ℕ → ℕ → Vec → Bool
-unfolding ofBits neg add sub mul div lt le eq seek first times upto rounds whole rootOf root magnitude isFinite table classOf scan placeOf byRows limitGood lengths least present decompositionLength gram skipped rotationOf turned pairDone pairsOf sweep factorsBad verdict swept sweeps normSq divided normalStep normalised allBad finished jacobi rank noted order longest workLength source columnLoaded matrixLoaded eyed loaded columnOut factorOut sortedOut checks ran svd scale isZero fine productTest every along roundsTest gramTest skipTest rotationTest turnTest pairTest sweepTest columnTest runTest
+unfolding ofBits neg add sub mul div lt le eq seek first times upto rounds whole rootOf root magnitude isFinite table classOf scan placeOf byRows limitGood lengths least present decompositionLength gram skipped rotationOf rotated pairDone pairsOf sweep factorsBad verdict swept sweeps normSq divided normalStep normalised allBad finished jacobi rank noted order longest workLength source columnLoaded matrixLoaded eyed loaded columnOut factorOut sortedOut checks ran svd scale isZero fine productTest every along roundsTest gramTest skipTest rotationTest turnTest pairTest sweepTest columnTest runTest
 tested ok lost m n a = runTest ok lost (longest m n) (least m n) 60 (begun m n a)
 
 unfoldable pub outcome : ℕ → ℕ → Vec → Outcome
-unfolding ofBits neg add sub mul div lt le eq seek first times upto rounds whole rootOf root magnitude isFinite table classOf scan placeOf byRows limitGood lengths least present decompositionLength gram skipped rotationOf turned pairDone pairsOf sweep factorsBad verdict swept sweeps normSq divided normalStep normalised allBad finished jacobi rank noted order longest workLength source columnLoaded matrixLoaded eyed loaded columnOut factorOut sortedOut checks ran svd scale isZero fine
+unfolding ofBits neg add sub mul div lt le eq seek first times upto rounds whole rootOf root magnitude isFinite table classOf scan placeOf byRows limitGood lengths least present decompositionLength gram skipped rotationOf rotated pairDone pairsOf sweep factorsBad verdict swept sweeps normSq divided normalStep normalised allBad finished jacobi rank noted order longest workLength source columnLoaded matrixLoaded eyed loaded columnOut factorOut sortedOut checks ran svd scale isZero fine
 outcome m n a = svd m n 1 1 60 a (zeros (workLength m n)) (zeros (decompositionLength m n 1 1))
 
 -- ---- where the theorem has something to say

@@ -9,9 +9,9 @@ use Rattle.root.specs.Root.{root}
 use Rattle.answers.specs.Answers.{passed}
 use Rattle.sweep.specs.declared.Sums.{Sums}
 use Rattle.sweep.specs.declared.Rotation.{Rotation}
-use Rattle.sweep.specs.Sweep.{uAt, gramStep, skipped, rotationOf, turnStep, pairDone, pairsOf}
+use Rattle.sweep.specs.Sweep.{uAt, gramStep, skipped, rotationOf, rotateStep, pairDone, pairsOf}
 use Rattle.values.specs.Values.{normStep, normSq, normalStep}
-use Rattle.jacobi.specs.Jacobi.{going, swept, ended, sweeps}
+use Rattle.jacobi.specs.Jacobi.{goingAfter, swept, ended, sweeps}
 use Rattle.gain.specs.Scale.{isZero}
 use Rattle.basis.specs.Fine.{nothing, gramOf}
 
@@ -58,7 +58,7 @@ module _ (ok : Float → Bool) (lost : Bool) where
       let b = uAt rows q in
       let g = gramOf rows p q (x .1) in
       along (gramStep a b (x .1)) (gramTest a b (x .1)) 0 rows nothing
-      && (skipTest g && (skipped g || (rotationTest g && along (turnStep a b (rotationOf g)) (turnTest a b (rotationOf g)) 0 rows (x .1))))
+      && (skipTest g && (skipped g || (rotationTest g && along (rotateStep a b (rotationOf g)) (turnTest a b (rotationOf g)) 0 rows (x .1))))
 
   unfoldable pub sweepTest : ℕ → ℕ → Vec → Bool
   sweepTest rows cols w = along (pairsOf rows cols) (λ p x. along (pairDone rows cols p) (pairTest rows cols p) (p + 1) cols x) 0 cols (false, w)
@@ -71,5 +71,5 @@ module _ (ok : Float → Bool) (lost : Bool) where
   unfoldable pub runTest : ℕ → ℕ → ℕ → Vec → Bool
   runTest rows cols limit w =
       let x = sweeps rows cols limit w in
-      roundsTest (swept rows cols) ended (λ x. sweepTest rows cols (x .1)) limit (going 0, w)
+      roundsTest (swept rows cols) ended (λ x. sweepTest rows cols (x .1)) limit (goingAfter 0, w)
       && (not (passed (x .0)) || along (normalStep rows cols) (columnTest rows) 0 cols (x .1))

@@ -13,9 +13,9 @@ use Rattle.root.specs.Root.{root}
 use Rattle.answers.specs.Answers.{passed}
 use Rattle.sweep.specs.declared.Sums.{Sums}
 use Rattle.sweep.specs.declared.Rotation.{Rotation}
-use Rattle.sweep.specs.Sweep.{uAt, gramStep, skipped, rotationOf, turnStep, pairDone, pairsOf}
+use Rattle.sweep.specs.Sweep.{uAt, gramStep, skipped, rotationOf, rotateStep, pairDone, pairsOf}
 use Rattle.values.specs.Values.{normStep, normalStep}
-use Rattle.jacobi.specs.Jacobi.{going, swept, ended, sweeps}
+use Rattle.jacobi.specs.Jacobi.{goingAfter, swept, ended, sweeps}
 use Rattle.gain.specs.Scale.{fine, isZero, Product}
 use Rattle.gain.specs.Along.{Along, Rounds}
 use Rattle.basis.specs.Fine.{GramFine, nothing, SkipFine, RotationFine, TurnFine, gramOf, PairFine, PairsFine, SweepFine, NormFine, ColumnFine, RunFine}
@@ -116,7 +116,7 @@ of-pair rows cols p q x t =
       sums = of-along (gramStep a b (x .1)) (gramTest fine false a b (x .1)) (GramFine a b (x .1)) 0 rows nothing (of-gram a b (x .1)) (and-l sumsTest _ t);
       skip = of-skip g (and-l (skipTest fine false g) _ (and-r sumsTest _ t));
       rotation = λ e. of-rotation g (and-l (rotationTest fine false g) _ (rest e));
-      turn = λ e. of-along (turnStep a b (rotationOf g)) (turnTest fine false a b (rotationOf g)) (TurnFine a b (rotationOf g)) 0 rows (x .1) (of-turn a b (rotationOf g)) (and-r (rotationTest fine false g) _ (rest e));
+      turn = λ e. of-along (rotateStep a b (rotationOf g)) (turnTest fine false a b (rotationOf g)) (TurnFine a b (rotationOf g)) 0 rows (x .1) (of-turn a b (rotationOf g)) (and-r (rotationTest fine false g) _ (rest e));
     }
   where
     a : ℕ
@@ -131,7 +131,7 @@ of-pair rows cols p q x t =
     sumsTest : Bool
     sumsTest = along (gramStep a b (x .1)) (gramTest fine false a b (x .1)) 0 rows nothing
 
-    rest : skipped g ≡ false → T (rotationTest fine false g && along (turnStep a b (rotationOf g)) (turnTest fine false a b (rotationOf g)) 0 rows (x .1))
+    rest : skipped g ≡ false → T (rotationTest fine false g && along (rotateStep a b (rotationOf g)) (turnTest fine false a b (rotationOf g)) 0 rows (x .1))
     rest e = or-r (skipped g) _ (and-r (skipTest fine false g) _ (and-r sumsTest _ t)) e
 
 of-sweep : (rows cols : ℕ) (w : Vec) → T (sweepTest fine false rows cols w) → SweepFine rows cols w
@@ -156,9 +156,9 @@ pub test-right : (rows cols limit : ℕ) (w : Vec) → T (runTest fine false row
 unfolding runTest
 test-right rows cols limit w t =
     record {
-      swept = of-rounds (swept rows cols) ended (λ x. sweepTest fine false rows cols (x .1)) (λ x. SweepFine rows cols (x .1)) limit (going 0, w) (λ x. of-sweep rows cols (x .1)) (and-l s _ t);
+      swept = of-rounds (swept rows cols) ended (λ x. sweepTest fine false rows cols (x .1)) (λ x. SweepFine rows cols (x .1)) limit (goingAfter 0, w) (λ x. of-sweep rows cols (x .1)) (and-l s _ t);
       valued = λ z. of-along (normalStep rows cols) (columnTest fine false rows) (ColumnFine rows) 0 cols (sweeps rows cols limit w .1) (of-column rows) (or-r (not (passed (sweeps rows cols limit w .0))) _ (and-r s _ t) (ap not z));
     }
   where
     s : Bool
-    s = roundsTest (swept rows cols) ended (λ x. sweepTest fine false rows cols (x .1)) limit (going 0, w)
+    s = roundsTest (swept rows cols) ended (λ x. sweepTest fine false rows cols (x .1)) limit (goingAfter 0, w)

@@ -26,16 +26,16 @@ unfoldable pub lessened : ℕ → Float → Vec → Vec → Vec
 lessened m proj b c = upto (lessStep proj b) 0 m c
 
 -- c against column i
-abbrev pub passStep : ℕ → ℕ → Vec → ℕ → Vec → Vec
-passStep m k q i c = lessened m (dot m (columnOf m k q i) c) (columnOf m k q i) c
+abbrev pub lessColumn : ℕ → ℕ → Vec → ℕ → Vec → Vec
+lessColumn m k q i c = lessened m (dot m (columnOf m k q i) c) (columnOf m k q i) c
 
 -- column c against the columns before j
-unfoldable pub pass : ℕ → ℕ → ℕ → Vec → Vec → Vec
-pass m k j q c = upto (passStep m k q) 0 j c
+unfoldable pub lessColumns : ℕ → ℕ → ℕ → Vec → Vec → Vec
+lessColumns m k j q c = upto (lessColumn m k q) 0 j c
 
 -- twice: the second takes what the first left
-unfoldable pub passes : ℕ → ℕ → ℕ → Vec → Vec → Vec
-passes m k j q c = upto (λ p. pass m k j q) 0 2 c
+unfoldable pub lessColumnsTwice : ℕ → ℕ → ℕ → Vec → Vec → Vec
+lessColumnsTwice m k j q c = upto (λ p. lessColumns m k j q) 0 2 c
 
 unfoldable pub norm : ℕ → Vec → Float
 norm m c = root (dot m c c)

@@ -2,7 +2,7 @@
 ghost use mathlib.Core.Path.{_≡_};
 ghost use Prim.Native.Nat.{_*_, _<_, _≤_};
 ghost use lib.ListN.{length};
-ghost use Rattle.gram.specs.Gram.{columnOf, dot, lessened, pass, passes, norm};
+ghost use Rattle.gram.specs.Gram.{columnOf, dot, lessened, lessColumns, lessColumnsTwice, norm};
 use grid::at1;
 use grid::entry;
 use grid::put1;
@@ -39,9 +39,9 @@ fn lessen(m: usize, proj: f64, b: &[f64], c: &mut [f64])
 }
 
 // c against the columns of q before j, each of which is copied to the scratch b.
-fn pass(m: usize, k: usize, j: usize, q: &[f64], b: &mut [f64], c: &mut [f64])
+fn less_columns(m: usize, k: usize, j: usize, q: &[f64], b: &mut [f64], c: &mut [f64])
     requires { ⌜ (j ≤ k) × (length (now q) ≡ m * k) × (length (now b) ≡ m) × (length (now c) ≡ m) ⌝ }
-    ensures { λ _. ⌜ now (c .exit) ≡ pass m k j (now (q .entry)) (now (c .entry)) ⌝ }
+    ensures { λ _. ⌜ now (c .exit) ≡ lessColumns m k j (now (q .entry)) (now (c .entry)) ⌝ }
 {
     for i in 0..j {
         column_of(m, k, q, i, b);
@@ -51,12 +51,12 @@ fn pass(m: usize, k: usize, j: usize, q: &[f64], b: &mut [f64], c: &mut [f64])
 }
 
 // Two passes: the second takes what the first left.
-pub fn passes(m: usize, k: usize, j: usize, q: &[f64], b: &mut [f64], c: &mut [f64])
+pub fn less_columns_twice(m: usize, k: usize, j: usize, q: &[f64], b: &mut [f64], c: &mut [f64])
     requires { ⌜ (j ≤ k) × (length (now q) ≡ m * k) × (length (now b) ≡ m) × (length (now c) ≡ m) ⌝ }
-    ensures { λ _. ⌜ now (c .exit) ≡ passes m k j (now (q .entry)) (now (c .entry)) ⌝ }
+    ensures { λ _. ⌜ now (c .exit) ≡ lessColumnsTwice m k j (now (q .entry)) (now (c .entry)) ⌝ }
 {
     for p in 0..2usize {
-        pass(m, k, j, q, b, c);
+        less_columns(m, k, j, q, b, c);
     }
 }
 

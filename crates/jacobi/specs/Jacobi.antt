@@ -13,25 +13,25 @@ use Rattle.marks.specs.Marks.{factorsBad, allBad}
 use Rattle.values.specs.Values.{normalised}
 
 -- the run goes on after so many sweeps; where the limit leaves no other, this is refusal 9
-abbrev pub going : ℕ → Answer
-going count = answered 9 count 0 count
+abbrev pub goingAfter : ℕ → Answer
+goingAfter count = answered 9 count 0 count
 
--- after sweep number count: mark 1, then settled if no pair turned, then the limit, if no sweep follows
+-- after sweep number count: mark 1, then settled if no pair turned (was rotated), then the limit, if no sweep follows
 unfoldable pub verdict : Bad → Bool → ℕ → Answer
-verdict b changed count = cond (isBad b) (marked 1 count b) (cond changed (going count) (done count))
+verdict b changed count = cond (isBad b) (marked 1 count b) (cond changed (goingAfter count) (done count))
 
 unfoldable pub swept : ℕ → ℕ → Answer × Vec → Answer × Vec
 swept rows cols x =
     let y = sweep rows cols (x .1) in
     (verdict (factorsBad rows cols (y .1)) (y .0) (x .0 .count + 1), y .1)
 
--- not `going`
+-- not `goingAfter`
 abbrev pub ended : Answer × Vec → Bool
 ended x = not (eqb (x .0 .answer) 9)
 
 -- sweeps until one ends the run, at most limit
 unfoldable pub sweeps : ℕ → ℕ → ℕ → Vec → Answer × Vec
-sweeps rows cols limit w = rounds (swept rows cols) ended limit (going 0, w)
+sweeps rows cols limit w = rounds (swept rows cols) ended limit (goingAfter 0, w)
 
 -- where the sweeps settled
 unfoldable pub finished : ℕ → ℕ → Answer × Vec → Answer × Vec

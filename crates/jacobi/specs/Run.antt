@@ -8,14 +8,14 @@ use Rattle.leaves.specs.declared.Bad.{Bad}
 use Rattle.leaves.specs.declared.Bad.the-variants.{At, Nowhere}
 use Rattle.answers.specs.Answers.{done, marked}
 use Rattle.answers.specs.declared.Answer.{Answer}
-use Rattle.jacobi.specs.Jacobi.{going, verdict, swept}
+use Rattle.jacobi.specs.Jacobi.{goingAfter, verdict, swept}
 
 -- the count is the sweeps run
 pub verdict-count : (b : Bad) (changed : Bool) (count : ℕ) → verdict b changed count .count ≡ count
 unfolding verdict
 verdict-count b changed count = go b changed
   where
-    go : (b : Bad) (y : Bool) → cond (isBad b) (marked 1 count b) (cond y (going count) (done count)) .count ≡ count
+    go : (b : Bad) (y : Bool) → cond (isBad b) (marked 1 count b) (cond y (goingAfter count) (done count)) .count ≡ count
     go (At i c) y = refl
     go Nowhere true = refl
     go Nowhere false = refl

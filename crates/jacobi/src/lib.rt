@@ -2,7 +2,7 @@
 ghost use mathlib.Core.Path.{_≡_};
 ghost use Prim.Native.Nat.{_≤_, _<_};
 ghost use Rattle.sweep.specs.Kept.{Sized};
-ghost use Rattle.jacobi.specs.Jacobi.{going, verdict, swept, sweeps, finished, jacobi};
+ghost use Rattle.jacobi.specs.Jacobi.{goingAfter, verdict, swept, sweeps, finished, jacobi};
 use answers::Answer;
 use answers::answered;
 use answers::done;
@@ -15,8 +15,8 @@ use sweep::sweep;
 use values::normalise;
 
 // The run goes on after so many sweeps; where the limit leaves no other, this is refusal 9.
-fn going(count: usize) -> Answer
-    ensures { λ r. ⌜ r ≡ going count ⌝ }
+fn going_after(count: usize) -> Answer
+    ensures { λ r. ⌜ r ≡ goingAfter count ⌝ }
 {
     answered(9, count, 0, count)
 }
@@ -29,7 +29,7 @@ fn verdict(b: Bad, changed: bool, count: usize) -> Answer
         return marked(1, count, b);
     }
     if changed {
-        return going(count);
+        return going_after(count);
     }
     done(count)
 }
@@ -49,7 +49,7 @@ fn sweeps(rows: usize, cols: usize, limit: usize, w: &mut [f64]) -> Answer
     requires { ⌜ (limit ≤ 60) × Sized rows cols (now w) ⌝ }
     ensures { λ r. ⌜ (r, now (w .exit)) ≡ sweeps rows cols limit (now (w .entry)) ⌝ }
 {
-    let mut run = going(0);
+    let mut run = going_after(0);
     let mut left = limit;
     while left > 0 {
         run = swept(rows, cols, run, w);

@@ -12,7 +12,7 @@ use Rattle.answers.specs.Answers.{answered, done}
 use Rattle.gram.specs.Gram.{dot, norm}
 use Rattle.matvec.specs.Matvec.{rowOf, replaced, product, added}
 use Rattle.reorth.specs.Reorth.{twice}
-use Rattle.stepend.specs.End.{went, ended}
+use Rattle.stepend.specs.End.{went, stepEnded}
 use Rattle.stepend.specs.declared.Went.{Went}
 
 -- ---- one step
@@ -30,7 +30,7 @@ State = Went × Vec × Vec × Vec × Vec
 -- v is the next of q, and alpha its number
 unfoldable pub kept : ℕ → ℕ → Float → Vec → Vec → Vec → Vec → Vec → State
 kept n j alpha w q al be v =
-    let (r, be′, v′) = ended n j (norm n w) w be v in
+    let (r, be′, v′) = stepEnded n j (norm n w) w be v in
     (r, replaced (j * n) (j * n + n) v q, set al j alpha, be′, v′)
 
 -- an alpha that is not finite is refused as soon as it is worked out
@@ -45,8 +45,8 @@ step n a j q al be v =
 -- ---- all steps
 
 -- nothing more is done once they have stopped
-unfoldable pub turn : ℕ → Vec → ℕ → State → State
-turn n a j (r, q, al, be, v) = cond (r .on) (step n a j q al be v) (r, q, al, be, v)
+unfoldable pub stepIfOn : ℕ → Vec → ℕ → State → State
+stepIfOn n a j (r, q, al, be, v) = cond (r .on) (step n a j q al be v) (r, q, al, be, v)
 
 unfoldable pub steps : ℕ → ℕ → Vec → Vec → Vec → Vec → Vec → State
-steps n s a q al be v = upto (turn n a) 0 s (went true (done 0) 0, q, al, be, v)
+steps n s a q al be v = upto (stepIfOn n a) 0 s (went true (done 0) 0, q, al, be, v)

@@ -14,8 +14,8 @@ use Rattle.answers.specs.Answers.{done}
 use Rattle.gram.specs.Gram.{dot, norm}
 use Rattle.matvec.specs.Matvec.{product}
 use Rattle.stepend.specs.declared.Went.{Went}
-use Rattle.stepend.specs.End.{tiny, went, ended}
-use Rattle.krylov.specs.Krylov.{State, kept, step, turn, steps}
+use Rattle.stepend.specs.End.{leastBeta, went, stepEnded}
+use Rattle.krylov.specs.Krylov.{State, kept, step, stepIfOn, steps}
 
 -- ---- a list of so many finite numbers
 
@@ -59,11 +59,11 @@ either : {A : Type 0} (P : A → Type 0) (b : Bool) {x y : A} → (b ≡ true �
 either P true p q = p refl
 either P false p q = q refl
 
-ended-fine : (n j : ℕ) (beta : Float) (w be v : Vec) → Fine 256 be → Fine 256 (ended n j beta w be v .1)
-unfolding ended
+ended-fine : (n j : ℕ) (beta : Float) (w be v : Vec) → Fine 256 be → Fine 256 (stepEnded n j beta w be v .1)
+unfolding stepEnded
 ended-fine n j beta w be v h =
     either (λ (z : Went × Vec × Vec). Fine 256 (z .1)) (isFinite beta)
-    (λ e. either (λ (z : Went × Vec × Vec). Fine 256 (z .1)) (lt tiny beta) (λ f. fine-set 256 be j beta e h) (λ f. h))
+    (λ e. either (λ (z : Went × Vec × Vec). Fine 256 (z .1)) (lt leastBeta beta) (λ f. fine-set 256 be j beta e h) (λ f. h))
     (λ e. h)
 
 kept-fine : (n j : ℕ) (alpha : Float) (w q al be v : Vec) → isFinite alpha ≡ true → Both al be → InState (kept n j alpha w q al be v)
@@ -72,11 +72,11 @@ kept-fine n j alpha w q al be v e h = record { alphas = fine-set 256 al j alpha 
 
 -- ---- and each is the step after the one before
 
-ended-dim : (n j : ℕ) (beta : Float) (w be v : Vec) → ended n j beta w be v .0 .dim ≡ j + 1
-unfolding ended
+ended-dim : (n j : ℕ) (beta : Float) (w be v : Vec) → stepEnded n j beta w be v .0 .dim ≡ j + 1
+unfolding stepEnded
 ended-dim n j beta w be v =
     either (λ (z : Went × Vec × Vec). z .0 .dim ≡ j + 1) (isFinite beta)
-    (λ e. either (λ (z : Went × Vec × Vec). z .0 .dim ≡ j + 1) (lt tiny beta) (λ f. refl) (λ f. refl))
+    (λ e. either (λ (z : Went × Vec × Vec). z .0 .dim ≡ j + 1) (lt leastBeta beta) (λ f. refl) (λ f. refl))
     (λ e. refl)
 
 kept-dim : (n j : ℕ) (alpha : Float) (w q al be v : Vec) → kept n j alpha w q al be v .0 .dim ≡ j + 1
@@ -101,9 +101,9 @@ record Turned (j : ℕ) (x : State) : Type 0 where
   stopped : x .0 .on ≡ false → 0 < x .0 .dim
   fine : InState x
 
-turn-turned : (n : ℕ) (a : Vec) (j : ℕ) (x : State) → Turned j x → Turned (j + 1) (turn n a j x)
-unfolding turn
-turn-turned n a j x h =
+step-turned : (n : ℕ) (a : Vec) (j : ℕ) (x : State) → Turned j x → Turned (j + 1) (stepIfOn n a j x)
+unfolding stepIfOn
+step-turned n a j x h =
     either (Turned (j + 1)) (x .0 .on)
     (λ e.
     let b = step-begun n a j (x .1) (x .2) (x .3) (x .4) (h .fine) in
@@ -114,8 +114,8 @@ module _ (n s : ℕ) (a q al be v : Vec) (h : Both al be) where
   turned : Turned s (steps n s a q al be v)
   unfolding steps
   turned =
-      upto-both (λ j x y. Turned j x) (turn n a) (turn n a) 0 s (went true (done 0) 0, q, al, be, v) (went true (done 0) 0, q, al, be, v) (omega arith)
-      (λ j x y l m g. turn-turned n a j x g)
+      upto-both (λ j x y. Turned j x) (stepIfOn n a) (stepIfOn n a) 0 s (went true (done 0) 0, q, al, be, v) (went true (done 0) 0, q, al, be, v) (omega arith)
+      (λ j x y l m g. step-turned n a j x g)
       (record { few = omega arith; running = λ t. refl; stopped = λ t. absurd (true≢false t); fine = h })
 
   pub steps-fine : Both (steps n s a q al be v .2) (steps n s a q al be v .3)

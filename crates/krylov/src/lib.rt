@@ -4,7 +4,7 @@ ghost use mathlib.Core.Bool.{true};
 ghost use Prim.Native.Nat.{_+_, _*_, _<_, _≤_};
 ghost use lib.ListN.{length};
 ghost use Rattle.symmetric.specs.Symmetry.{Mirror};
-ghost use Rattle.krylov.specs.Krylov.{recurred, kept, step, turn, steps};
+ghost use Rattle.krylov.specs.Krylov.{recurred, kept, step, stepIfOn, steps};
 use answers::answered;
 use answers::done;
 use gram::dot;
@@ -100,7 +100,7 @@ fn step(
 // ---- all steps
 
 // Nothing more is done once they have stopped.
-fn turn(
+fn step_if_on(
     n: usize,
     s: usize,
     mirror: bool,
@@ -114,7 +114,7 @@ fn turn(
     w: &mut [f64],
 ) -> Went
     requires { ⌜ (j < s) × (s ≤ 256) × (n ≤ 256) × (mirror ≡ true → Mirror n (now a)) × (length (now a) ≡ n * n) × (length (now q) ≡ s * n) × (length (now v) ≡ n) × (length (now w) ≡ n) ⌝ }
-    ensures { λ t. ⌜ (t, now (q .exit), now (al .exit), now (be .exit), now (v .exit)) ≡ turn n (now (a .entry)) j (r, now (q .entry), now (al .entry), now (be .entry), now (v .entry)) ⌝ }
+    ensures { λ t. ⌜ (t, now (q .exit), now (al .exit), now (be .exit), now (v .exit)) ≡ stepIfOn n (now (a .entry)) j (r, now (q .entry), now (al .entry), now (be .entry), now (v .entry)) ⌝ }
 {
     if !r.on {
         return r;
@@ -143,7 +143,7 @@ pub fn steps(
         dim: 0,
     };
     for j in 0..s {
-        r = turn(n, s, mirror, a, j, r, q, al, be, v, w);
+        r = step_if_on(n, s, mirror, a, j, r, q, al, be, v, w);
     }
     r
 }

@@ -13,7 +13,7 @@ use Rattle.answers.specs.Answers.{passed, least, refusal7}
 use Rattle.answers.specs.OutcomeLaws.{Settled, always, by-test}
 use Rattle.answers.specs.declared.Answer.{Answer}
 use Rattle.checks.specs.ChecksLaws.{right-limit}
-use Rattle.jacobi.specs.Jacobi.{going, swept, ended, sweeps, finished, jacobi}
+use Rattle.jacobi.specs.Jacobi.{goingAfter, swept, ended, sweeps, finished, jacobi}
 use Rattle.sorted.specs.Result.{longest, sortedOut}
 use Rattle.svd.specs.Svd.{loaded, checks, ran, svd}
 use Rattle.plain.specs.Exact.{Outcome}
@@ -27,7 +27,7 @@ answer3 x = x .0 .answer
 jacobi-limit : (rows cols k l : ℕ) (w : Vec) → 1 ≤ k → k ≤ l → Settled answer2 (jacobi rows cols k w) (jacobi rows cols l w)
 unfolding jacobi sweeps
 jacobi-limit rows cols k l w z p = record {
-  same = λ h. ap (λ (x : Answer × Vec). cond (passed (x .0)) (finished rows cols x) x) (rounds-limit (swept rows cols) ended k l (going 0, w) z p (over (eqb (x .0 .answer) 9) refl h));
+  same = λ h. ap (λ (x : Answer × Vec). cond (passed (x .0)) (finished rows cols x) x) (rounds-limit (swept rows cols) ended k l (goingAfter 0, w) z p (over (eqb (x .0 .answer) 9) refl h));
 }
   where
     x : Answer × Vec

@@ -23,7 +23,7 @@ use Rattle.answers.specs.Answers.{answered, done, passed, marked}
 use Rattle.answers.specs.declared.Answer.{Answer}
 use Rattle.marks.specs.Marks.{factors, factorsBad, valuesFactors, allBad}
 use Rattle.values.specs.Values.{normalised}
-use Rattle.jacobi.specs.Jacobi.{going, verdict, swept, ended, sweeps, finished, jacobi}
+use Rattle.jacobi.specs.Jacobi.{goingAfter, verdict, swept, ended, sweeps, finished, jacobi}
 use Rattle.sweep.specs.Sweep.{valueAt, sweep}
 use Rattle.plain.specs.Document.{plainSweep, unchanged, plainSweeps, plain}
 use Rattle.plain.specs.Kept.{rounds-length, normalised-length}
@@ -238,7 +238,7 @@ record Came (rows cols k : ℕ) (x y : Ended) : Type 0 where
 data Once (rows cols : ℕ) (x y : Ended) : Type 0 where
   sees : (a i : ℕ) → y .0 ≡ answered a 1 i (x .0 .count + 1) → Seen1 rows cols (y .1) i a → Once rows cols x y
   settles : y .0 ≡ done (x .0 .count + 1) → Sound rows cols (y .1) → sweep rows cols (x .1) .0 ≡ false → Once rows cols x y
-  on : y .0 ≡ going (x .0 .count + 1) → Sound rows cols (y .1) → sweep rows cols (x .1) .0 ≡ true → Once rows cols x y
+  on : y .0 ≡ goingAfter (x .0 .count + 1) → Sound rows cols (y .1) → sweep rows cols (x .1) .0 ≡ true → Once rows cols x y
 
 module _ (rows cols : ℕ) where
   one-sweep : (x : Ended) → length (x .1) ≡ rows * cols + cols * cols + cols → Once rows cols x (swept rows cols x)
@@ -255,14 +255,14 @@ module _ (rows cols : ℕ) where
       n = x .0 .count + 1
 
       go : (b : Bad) → factorsBad rows cols w ≡ b → (q : Bool) → sweep rows cols (x .1) .0 ≡ q → Once rows cols x (swept rows cols x)
-      go (At k a) e q f = sees a k (λ j. cond (isBad (e j)) (marked 1 n (e j)) (cond (sweep rows cols (x .1) .0) (going n) (done n))) (scan-first _ _ k a e)
-      go Nowhere e true f = on (λ j. cond (isBad (e j)) (marked 1 n (e j)) (cond (f j) (going n) (done n))) (sound-of rows cols w long (ap isBad e)) f
-      go Nowhere e false f = settles (λ j. cond (isBad (e j)) (marked 1 n (e j)) (cond (f j) (going n) (done n))) (sound-of rows cols w long (ap isBad e)) f
+      go (At k a) e q f = sees a k (λ j. cond (isBad (e j)) (marked 1 n (e j)) (cond (sweep rows cols (x .1) .0) (goingAfter n) (done n))) (scan-first _ _ k a e)
+      go Nowhere e true f = on (λ j. cond (isBad (e j)) (marked 1 n (e j)) (cond (f j) (goingAfter n) (done n))) (sound-of rows cols w long (ap isBad e)) f
+      go Nowhere e false f = settles (λ j. cond (isBad (e j)) (marked 1 n (e j)) (cond (f j) (goingAfter n) (done n))) (sound-of rows cols w long (ap isBad e)) f
 
-  rounds-came : (k : ℕ) (x : Ended) → x .0 ≡ going (x .0 .count) → length (x .1) ≡ rows * cols + cols * cols + cols
+  rounds-came : (k : ℕ) (x : Ended) → x .0 ≡ goingAfter (x .0 .count) → length (x .1) ≡ rows * cols + cols * cols + cols
       → Came rows cols k x (rounds (swept rows cols) ended k x)
   unfolding rounds swept numbers
-  rounds-came zero x a l = record { c = 0; e = used; swept-to = no-more; gives = a ∙ ap going (omega arith) }
+  rounds-came zero x a l = record { c = 0; e = used; swept-to = no-more; gives = a ∙ ap goingAfter (omega arith) }
   rounds-came (suc k) x a l = go (one-sweep x l) (λ q. rounds-came k y q (sweep-length _ rows cols (x .1) l))
     where
       y : Ended
@@ -274,12 +274,12 @@ module _ (rows cols : ℕ) where
       over : {s : Answer} → y .0 ≡ s → Came rows cols (suc k) x (cond (not (eqb (s .answer) 9)) y rest) → Came rows cols (suc k) x (cond (ended y) y rest)
       over q w = subst (λ (s : Answer). Came rows cols (suc k) x (cond (not (eqb (s .answer) 9)) y rest)) (sym q) w
 
-      go : Once rows cols x y → (y .0 ≡ going (y .0 .count) → Came rows cols k y rest) → Came rows cols (suc k) x (cond (ended y) y rest)
+      go : Once rows cols x y → (y .0 ≡ goingAfter (y .0 .count) → Came rows cols k y rest) → Came rows cols (suc k) x (cond (ended y) y rest)
       go (sees a i q f) later = over q (rw (ne-eqb a 9 (not-going f)) (record { c = 1; e = bad a i; swept-to = stop f; gives = q }))
       go (settles q f s) later = over q (record { c = 1; e = here; swept-to = once f s; gives = q })
       go (on q f s) later =
           let n : y .0 .count ≡ x .0 .count + 1 = ap (λ (t : Answer). t .count) q in
-          let w = later (q ∙ ap going (sym n)) in
+          let w = later (q ∙ ap goingAfter (sym n)) in
           over q (record { c = suc (w .c); e = w .e; swept-to = again f s (w .swept-to); gives = w .gives ∙ ap (numbers (w .e)) (omega arith) })
 
 -- **what jacobi gives is what is told**
@@ -288,16 +288,16 @@ unfolding jacobi sweeps finished numbers allBad
 told rows cols limit w l = go (a .e) (a .swept-to) (a .gives ∙ ap (numbers (a .e)) (omega arith))
   where
     x : Ended
-    x = rounds (swept rows cols) ended limit (going 0, w)
+    x = rounds (swept rows cols) ended limit (goingAfter 0, w)
 
-    a : Came rows cols limit (going 0, w) x
-    a = rounds-came rows cols limit (going 0, w) refl l
+    a : Came rows cols limit (goingAfter 0, w) x
+    a = rounds-came rows cols limit (goingAfter 0, w) refl l
 
     v : Vec
     v = normalised rows cols (x .1)
 
     long : length v ≡ rows * cols + cols * cols + cols
-    long = normalised-length _ rows cols (x .1) (rounds-length _ rows cols limit (going 0, w) l)
+    long = normalised-length _ rows cols (x .1) (rounds-length _ rows cols limit (goingAfter 0, w) l)
 
     end : Answer → Ended
     end s = cond (passed s) (marked 2 (s .count) (allBad rows cols v), v) (s, x .1)

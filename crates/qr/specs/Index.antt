@@ -7,7 +7,7 @@ use Rattle.grid.specs.Real.{Vec}
 use Rattle.leaves.specs.Finite.{First}
 use Rattle.answers.specs.Answers.{done}
 use Rattle.answers.specs.declared.Answer.{Answer}
-use Rattle.gram.specs.Gram.{columnOf, passes, norm}
+use Rattle.gram.specs.Gram.{columnOf, lessColumnsTwice, norm}
 use Rattle.qr.specs.Qr.{columnStep}
 
 -- q as it stands before column j, and the norm of that column
@@ -17,7 +17,7 @@ before m k a j = upto (columnStep m k) 0 j (done 0, a)
 abbrev pub normAt : ℕ → ℕ → Vec → ℕ → Float
 normAt m k a j =
     let q = before m k a j .1 in
-    norm m (passes m k j q (columnOf m k q j))
+    norm m (lessColumnsTwice m k j q (columnOf m k q j))
 
 -- the norm of column `index` is the first that is not finite, and of the answer's class; the place is the column too
 pub record Points (m k : ℕ) (a : Vec) (x : Answer) : Type 0 where

@@ -23,7 +23,7 @@ use Rattle.answers.specs.declared.Answer.{Answer}
 use Rattle.checks.specs.Checks.{lengths}
 use Rattle.checks.specs.ChecksLaws.{lengths-index}
 use Rattle.checks.specs.ChecksLaws.{lengths-few}
-use Rattle.gram.specs.Gram.{columnOf, passes, norm}
+use Rattle.gram.specs.Gram.{columnOf, lessColumnsTwice, norm}
 use Rattle.unit.specs.Unit.{normalised, putColumn, finished}
 use Rattle.qr.specs.Qr.{column, columnStep, columns, checks, qrQ}
 use Rattle.qr.specs.Out.{class-some}
@@ -51,7 +51,7 @@ module _ (m k : ℕ) (a : Vec) where
       q = before m k a j .1
 
       c : Vec
-      c = passes m k j q (columnOf m k q j)
+      c = lessColumnsTwice m k j q (columnOf m k q j)
 
       go : (b : Bool) → isFinite (normAt m k a j) ≡ b
           → Stood m k a (suc j) (cond b (done 0, putColumn m k j (normalised m (norm m c) c) q) (emptied (answered (classOf (norm m c)) j j 0) q) .0)

@@ -25,7 +25,7 @@ use Rattle.leaves.specs.declared.Bad.the-variants.{At, Nowhere}
 use Rattle.answers.specs.Answers.{answered, done, passed, emptied, unlessBad}
 use Rattle.answers.specs.OutcomeLaws.{Good, refuses, check-good}
 use Rattle.answers.specs.declared.Answer.{Answer}
-use Rattle.gram.specs.Gram.{columnOf, dotStep, dot, lessStep, lessened, passStep, pass, passes, norm}
+use Rattle.gram.specs.Gram.{columnOf, dotStep, dot, lessStep, lessened, lessColumn, lessColumns, lessColumnsTwice, norm}
 use Rattle.unit.specs.Unit.{overStep, over, normalised, putStep, putColumn, finished}
 use Rattle.qr.specs.Qr.{column, columnStep, columns, checks, qrQ}
 use Rattle.qr.specs.Quotient.{add-finite, root-finite, quotient}
@@ -95,10 +95,10 @@ lessened-long : (m : ℕ) (proj : Float) (b c : Vec) → length (lessened m proj
 unfolding lessened
 lessened-long m proj b c = upto-long (λ c. c) (lessStep proj b) 0 m c (λ row w. simp length-set)
 
-passes-long : (m k j : ℕ) (q c : Vec) → length (passes m k j q c) ≡ length c
-unfolding passes pass
+passes-long : (m k j : ℕ) (q c : Vec) → length (lessColumnsTwice m k j q c) ≡ length c
+unfolding lessColumnsTwice lessColumns
 passes-long m k j q c =
-    upto-long (λ c. c) (λ p. pass m k j q) 0 2 c (λ p u. upto-long (λ c. c) (passStep m k q) 0 j u (λ i v. lessened-long m _ _ v))
+    upto-long (λ c. c) (λ p. lessColumns m k j q) 0 2 c (λ p u. upto-long (λ c. c) (lessColumn m k q) 0 j u (λ i v. lessened-long m _ _ v))
 
 -- ---- into the array
 
@@ -120,7 +120,7 @@ unfolding column finished
 column-good n m k j q f l = go (isFinite (norm m c)) refl
   where
     c : Vec
-    c = passes m k j q (columnOf m k q j)
+    c = lessColumnsTwice m k j q (columnOf m k q j)
 
     long : length c ≡ m
     long = passes-long m k j q (columnOf m k q j) ∙ length-table _ m

@@ -9,14 +9,14 @@ use Rattle.answers.specs.Answers.{refused, done, passed, unlessBad}
 use Rattle.answers.specs.declared.Answer.{Answer}
 use Rattle.checks.specs.Checks.{lengths}
 use Rattle.leaves.specs.Scan.{firstBad}
-use Rattle.gram.specs.Gram.{columnOf, passes, norm}
+use Rattle.gram.specs.Gram.{columnOf, lessColumnsTwice, norm}
 use Rattle.unit.specs.Unit.{finished}
 
 -- ---- the run: the four numbers, and q
 
 unfoldable pub column : ℕ → ℕ → ℕ → Vec → Answer × Vec
 column m k j q =
-    let c = passes m k j q (columnOf m k q j) in
+    let c = lessColumnsTwice m k j q (columnOf m k q j) in
     finished m k j (norm m c) c q
 
 -- nothing more is done after a refusal

@@ -7,15 +7,15 @@ ghost use Rattle.leaves.specs.Scan.{firstBad};
 ghost use Rattle.qr.specs.Qr.{column, columns, checks, qrQ};
 use answers::Answer;
 use answers::done;
+use answers::refusal7;
 use answers::refuse;
 use answers::refused;
 use checks::lengths;
 use gram::column_of;
+use gram::less_columns_twice;
 use gram::norm;
-use gram::passes;
 use grid::LARGEST;
 use grid::copy;
-use leaves::Bad;
 use scan::first_bad;
 use unit::finish;
 
@@ -24,7 +24,7 @@ fn column(m: usize, k: usize, j: usize, b: &mut [f64], c: &mut [f64], q: &mut [f
     ensures { λ r. ⌜ (r, now (q .exit)) ≡ column m k j (now (q .entry)) ⌝ }
 {
     column_of(m, k, q, j, c);
-    passes(m, k, j, q, b, c);
+    less_columns_twice(m, k, j, q, b, c);
     finish(m, k, j, norm(m, c), c, q)
 }
 
@@ -69,10 +69,11 @@ fn scanned(m: usize, k: usize, a: &[f64], x: &mut [f64]) -> Answer
     requires { ⌜ (m ≤ 256) × (length (now a) ≡ m * k) × (length (now x) ≡ m * k) ⌝ }
     ensures { λ r. ⌜ (r, now (x .exit)) ≡ unlessBad (firstBad (now (a .entry))) (now (x .entry)) (columns m k (now (a .entry))) ⌝ }
 {
-    let Bad::At(i, _) = first_bad(a) else {
-        return run(m, k, a, x);
-    };
-    refuse(refused(7, i), x)
+    let bad = refusal7(first_bad(a));
+    if bad.answer != 0 {
+        return refuse(bad, x);
+    }
+    run(m, k, a, x)
 }
 
 pub fn qr_q(m: usize, k: usize, matrix: &[f64], answer: &mut [f64]) -> Answer

@@ -13,7 +13,7 @@ use Rattle.grid.specs.Table.{part}
 use Rattle.gram.specs.Gram.{dot}
 use Rattle.matvec.specs.Matvec.{rowOf, added, without}
 use Rattle.matvec.specs.Rows.{addedDot}
-use Rattle.reorth.specs.Reorth.{against}
+use Rattle.reorth.specs.Reorth.{againstAll}
 
 -- ---- the first row, and the one behind row i
 
@@ -59,8 +59,8 @@ module _ (n : ℕ) (q w : Vec) where
 
   -- the last of them, and v
   pub against-whole : (j : ℕ) (p r : Float) (v x y z u : Vec) → 0 < j → u ≡ rowOf n (j - 1) q → _≡_ {A = Float × Vec} (p, x) (passed n (j - 1) q w)
-      → _≡_ {A = Float × Vec} (r, y) (addedDot n (neg p) u v x) → z ≡ added n (neg r) v y → z ≡ against n j q v w
-  unfolding passed addedDot without against
+      → _≡_ {A = Float × Vec} (r, y) (addedDot n (neg p) u v x) → z ≡ added n (neg r) v y → z ≡ againstAll n j q v w
+  unfolding passed addedDot without againstAll
   against-whole j p r v x y z u l a e g h = h ∙ ap (λ (f : Float). added n (neg f) v y) along2 ∙ ap (without n v) all
     where
       is : x ≡ less n q (j - 1) w
@@ -81,6 +81,6 @@ module _ (n : ℕ) (q w : Vec) where
       along2 : r ≡ dot n y v
       along2 = ap (λ (z : Float × Vec). z .0) g ∙ ap (λ (z : Vec). dot n z v) (sym (ap (λ (z : Float × Vec). z .1) g))
 
-pub against-none : (n j : ℕ) (q v w z : Vec) → j ≡ 0 → z ≡ without n v w → z ≡ against n j q v w
-unfolding against
+pub against-none : (n j : ℕ) (q v w z : Vec) → j ≡ 0 → z ≡ without n v w → z ≡ againstAll n j q v w
+unfolding againstAll
 against-none n j q v w z e h = h ∙ ap (without n v) (sym (ap (λ (k : ℕ). less n q k w) e ∙ upto-none (λ i. without n (rowOf n i q)) 0 w))

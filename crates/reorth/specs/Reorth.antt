@@ -5,9 +5,9 @@ use Rattle.grid.specs.Real.{Vec}
 use Rattle.matvec.specs.Matvec.{rowOf, without}
 
 -- w against the vectors before step j, and against v
-unfoldable pub against : ℕ → ℕ → Vec → Vec → Vec → Vec
-against n j q v w = without n v (upto (λ i. without n (rowOf n i q)) 0 j w)
+unfoldable pub againstAll : ℕ → ℕ → Vec → Vec → Vec → Vec
+againstAll n j q v w = without n v (upto (λ i. without n (rowOf n i q)) 0 j w)
 
 -- twice: the second round takes what the first left
 unfoldable pub twice : ℕ → ℕ → Vec → Vec → Vec → Vec
-twice n j q v w = upto (λ p. against n j q v) 0 2 w
+twice n j q v w = upto (λ p. againstAll n j q v) 0 2 w

@@ -2,7 +2,7 @@
 ghost use mathlib.Core.Path.{_≡_};
 ghost use Prim.Native.Nat.{_*_, _<_, _≤_};
 ghost use lib.ListN.{length};
-ghost use Rattle.reorth.specs.Reorth.{against, twice};
+ghost use Rattle.reorth.specs.Reorth.{againstAll, twice};
 ghost use Rattle.reorth.specs.Against.{passed};
 use gram::dot;
 use matvec::add;
@@ -25,9 +25,9 @@ fn past(n: usize, s: usize, m: usize, q: &[f64], w: &mut [f64]) -> f64
 }
 
 // w against the vectors before step j, and against v.
-fn against(n: usize, s: usize, j: usize, q: &[f64], v: &[f64], w: &mut [f64])
+fn against_all(n: usize, s: usize, j: usize, q: &[f64], v: &[f64], w: &mut [f64])
     requires { ⌜ (j ≤ s) × (length (now q) ≡ s * n) × (length (now v) ≡ n) × (length (now w) ≡ n) ⌝ }
-    ensures { λ _. ⌜ now (w .exit) ≡ against n j (now (q .entry)) (now (v .entry)) (now (w .entry)) ⌝ }
+    ensures { λ _. ⌜ now (w .exit) ≡ againstAll n j (now (q .entry)) (now (v .entry)) (now (w .entry)) ⌝ }
 {
     if j == 0 {
         lessen(n, v, w);
@@ -47,6 +47,6 @@ pub fn twice(n: usize, s: usize, j: usize, q: &[f64], v: &[f64], w: &mut [f64])
     ensures { λ _. ⌜ now (w .exit) ≡ twice n j (now (q .entry)) (now (v .entry)) (now (w .entry)) ⌝ }
 {
     for p in 0..2usize {
-        against(n, s, j, q, v, w);
+        against_all(n, s, j, q, v, w);
     }
 }

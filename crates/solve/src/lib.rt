@@ -15,6 +15,7 @@ use answers::decomposition_length;
 use answers::done;
 use answers::least;
 use answers::marked;
+use answers::refusal7;
 use answers::refuse;
 use answers::refused;
 use checks::fitting;
@@ -124,10 +125,11 @@ fn solve_scanned(m: usize, n: usize, tolerance: f64, d: &[f64], b: &[f64], x: &m
     requires { ⌜ Sized m n (length (now d)) × (length (now b) ≡ m) × (length (now x) ≡ n) ⌝ }
     ensures { λ r. ⌜ (r, now (x .exit)) ≡ unlessBad (firstBad (now (d .entry) ++ now (b .entry))) (now (x .entry)) (looked (solution m n tolerance (now (d .entry)) (now (b .entry)))) ⌝ }
 {
-    let Bad::At(i, _) = either_bad(d, b) else {
-        return solve_looked(m, n, tolerance, d, b, x);
-    };
-    refuse(refused(7, i), x)
+    let bad = refusal7(either_bad(d, b));
+    if bad.answer != 0 {
+        return refuse(bad, x);
+    }
+    solve_looked(m, n, tolerance, d, b, x)
 }
 
 // The minimum-norm least-squares solution of A x = b.
@@ -173,10 +175,11 @@ fn inverse_scanned(m: usize, n: usize, tolerance: f64, d: &[f64], x: &mut [f64])
     requires { ⌜ Sized m n (length (now d)) × (length (now x) ≡ n * m) ⌝ }
     ensures { λ r. ⌜ (r, now (x .exit)) ≡ unlessBad (firstBad (now (d .entry))) (now (x .entry)) (looked (inverted m n tolerance (now (d .entry)))) ⌝ }
 {
-    let Bad::At(i, _) = first_bad(d) else {
-        return inverse_looked(m, n, tolerance, d, x);
-    };
-    refuse(refused(7, i), x)
+    let bad = refusal7(first_bad(d));
+    if bad.answer != 0 {
+        return refuse(bad, x);
+    }
+    inverse_looked(m, n, tolerance, d, x)
 }
 
 // The Moore-Penrose pseudo-inverse, n by m.

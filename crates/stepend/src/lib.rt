@@ -2,7 +2,7 @@
 ghost use mathlib.Core.Path.{_≡_};
 ghost use Prim.Native.Nat.{_<_};
 ghost use lib.ListN.{length};
-ghost use Rattle.stepend.specs.End.{ended};
+ghost use Rattle.stepend.specs.End.{stepEnded};
 use answers::Answer;
 use answers::answered;
 use answers::done;
@@ -12,7 +12,7 @@ use leaves::class_of;
 use leaves::is_finite;
 use unit::over;
 
-const TINY: f64 = 0.000000000001;
+const LEAST_BETA: f64 = 0.000000000001;
 
 // How the steps stand: whether they go on, 0 or the refusal, and how many were begun.
 pub struct Went {
@@ -24,7 +24,7 @@ pub struct Went {
 // The end of step j, with that beta.
 pub fn end(n: usize, j: usize, beta: f64, w: &[f64], be: &mut [f64; LARGEST], v: &mut [f64]) -> Went
     requires { ⌜ (j < 256) × (length (now v) ≡ n) × (length (now w) ≡ n) ⌝ }
-    ensures { λ r. ⌜ (r, now (be .exit), now (v .exit)) ≡ ended n j beta (now (w .entry)) (now (be .entry)) (now (v .entry)) ⌝ }
+    ensures { λ r. ⌜ (r, now (be .exit), now (v .exit)) ≡ stepEnded n j beta (now (w .entry)) (now (be .entry)) (now (v .entry)) ⌝ }
 {
     if !is_finite(beta) {
         return Went {
@@ -33,7 +33,7 @@ pub fn end(n: usize, j: usize, beta: f64, w: &[f64], be: &mut [f64; LARGEST], v:
             dim: j + 1,
         };
     }
-    if beta > TINY {
+    if beta > LEAST_BETA {
         be[j] = beta;
         copy(w, v);
         over(n, beta, v);

@@ -7,7 +7,7 @@ use Rattle.grid.specs.Loop.{upto}
 use Rattle.grid.specs.LoopLaws.{upto-keeps}
 use Rattle.grid.specs.Real.{Vec}
 use Rattle.sweep.specs.declared.Rotation.{Rotation}
-use Rattle.sweep.specs.Sweep.{uAt, vAt, gram, skipped, rotationOf, turnStep, turned, pairDone, pairsOf, sweep}
+use Rattle.sweep.specs.Sweep.{uAt, vAt, gram, skipped, rotationOf, rotateStep, rotated, pairDone, pairsOf, sweep}
 
 -- what every function on w asks
 pub record Sized (rows cols : ℕ) (w : Vec) : Type 0 where
@@ -23,9 +23,9 @@ module _ (n : ℕ) where
       → ((i : ℕ) (x : Bool × Vec) → length (x .1) ≡ n → length (f i x .1) ≡ n) → length (x .1) ≡ n → length (upto f a b x .1) ≡ n
   keeps-flag f a b x h = upto-keeps (λ x y. length (x .1) ≡ n) f f a b x x (λ i x y p q. h i x)
 
-  turned-length : (a b rows : ℕ) (rot : Rotation) (w : Vec) → length w ≡ n → length (turned a b rows rot w) ≡ n
-  unfolding turned
-  turned-length a b rows rot w = keeps (turnStep a b rot) 0 rows w (λ i x e. simp length-set e)
+  rotated-length : (a b rows : ℕ) (rot : Rotation) (w : Vec) → length w ≡ n → length (rotated a b rows rot w) ≡ n
+  unfolding rotated
+  rotated-length a b rows rot w = keeps (rotateStep a b rot) 0 rows w (λ i x e. simp length-set e)
 
   pair-length : (rows cols p q : ℕ) (x : Bool × Vec) → length (x .1) ≡ n → length (pairDone rows cols p q x .1) ≡ n
   unfolding pairDone
@@ -35,9 +35,9 @@ module _ (n : ℕ) where
       rot = rotationOf (gram (uAt rows p) (uAt rows q) rows (x .1))
 
       go : (b : Bool)
-          → length (cond b x (true, turned (vAt rows cols p) (vAt rows cols q) cols rot (turned (uAt rows p) (uAt rows q) rows rot (x .1))) .1) ≡ n
+          → length (cond b x (true, rotated (vAt rows cols p) (vAt rows cols q) cols rot (rotated (uAt rows p) (uAt rows q) rows rot (x .1))) .1) ≡ n
       go true = e
-      go false = turned-length (vAt rows cols p) (vAt rows cols q) cols rot _ (turned-length (uAt rows p) (uAt rows q) rows rot (x .1) e)
+      go false = rotated-length (vAt rows cols p) (vAt rows cols q) cols rot _ (rotated-length (uAt rows p) (uAt rows q) rows rot (x .1) e)
 
   pub sweep-length : (rows cols : ℕ) (w : Vec) → length w ≡ n → length (sweep rows cols w .1) ≡ n
   unfolding sweep pairsOf

@@ -50,23 +50,23 @@ rotationOf x =
     let c = one64 ⊘ root (one64 ⊕ t ⊗ t) in
     record { c = c; s = c ⊗ t; t = t }
 
--- the columns at a and b, turned
-abbrev pub turnStep : ℕ → ℕ → Rotation → ℕ → Vec → Vec
-turnStep a b rot i w =
+-- the columns at a and b, rotated
+abbrev pub rotateStep : ℕ → ℕ → Rotation → ℕ → Vec → Vec
+rotateStep a b rot i w =
     let up = at w (a + i) in
     let uq = at w (b + i) in
     set (set w (a + i) (rot .c ⊗ up ⊖ rot .s ⊗ uq)) (b + i) (rot .s ⊗ up ⊕ rot .c ⊗ uq)
 
-unfoldable pub turned : ℕ → ℕ → ℕ → Rotation → Vec → Vec
-turned a b rows rot w = upto (turnStep a b rot) 0 rows w
+unfoldable pub rotated : ℕ → ℕ → ℕ → Rotation → Vec → Vec
+rotated a b rows rot w = upto (rotateStep a b rot) 0 rows w
 
--- columns p and q of both factors by one rotation; the flag says whether a pair has turned
+-- columns p and q of both factors by one rotation; the flag says whether a pair was rotated
 unfoldable pub pairDone : ℕ → ℕ → ℕ → ℕ → Bool × Vec → Bool × Vec
 pairDone rows cols p q x =
     let g = gram (uAt rows p) (uAt rows q) rows (x .1) in
     let rot = rotationOf g in
-    let u = turned (uAt rows p) (uAt rows q) rows rot (x .1) in
-    cond (skipped g) x (true, turned (vAt rows cols p) (vAt rows cols q) cols rot u)
+    let u = rotated (uAt rows p) (uAt rows q) rows rot (x .1) in
+    cond (skipped g) x (true, rotated (vAt rows cols p) (vAt rows cols q) cols rot u)
 
 -- ---- one sweep
 

@@ -5,7 +5,7 @@ ghost use mathlib.Core.Path.{_≡_};
 ghost use Prim.Native.Nat.{_+_, _*_, _≤_, _<_};
 ghost use lib.ListN.{length};
 ghost use Rattle.sweep.specs.Kept.{Sized};
-ghost use Rattle.sweep.specs.Sweep.{gram, skipped, signOf, rotationOf, turned, pairDone, pairsOf, sweep};
+ghost use Rattle.sweep.specs.Sweep.{gram, skipped, signOf, rotationOf, rotated, pairDone, pairsOf, sweep};
 use grid::at1;
 use grid::put1;
 use leaves::magnitude;
@@ -74,9 +74,9 @@ fn rotation_of(x: Sums) -> Rotation
 }
 
 // Turns the columns at a and b.
-fn turn(w: &mut [f64], a: usize, b: usize, rows: usize, rot: Rotation)
+fn rotate(w: &mut [f64], a: usize, b: usize, rows: usize, rot: Rotation)
     requires { ⌜ (a + rows ≤ length (now w)) × (b + rows ≤ length (now w)) ⌝ }
-    ensures { λ _. ⌜ now (w .exit) ≡ turned a b rows rot (now (w .entry)) ⌝ }
+    ensures { λ _. ⌜ now (w .exit) ≡ rotated a b rows rot (now (w .entry)) ⌝ }
 {
     for i in 0..rows {
         let up = at1(w, a + i);
@@ -86,7 +86,7 @@ fn turn(w: &mut [f64], a: usize, b: usize, rows: usize, rot: Rotation)
     }
 }
 
-// Columns p and q. What comes back says whether a pair has turned, this one or one before.
+// Columns p and q. What comes back says whether a pair was rotated, this one or one before.
 fn pair(rows: usize, cols: usize, p: usize, q: usize, changed: bool, w: &mut [f64]) -> bool
     requires { ⌜ (p < cols) × (q < cols) × Sized rows cols (now w) ⌝ }
     ensures { λ b. ⌜ (b, now (w .exit)) ≡ pairDone rows cols p q (changed, now (w .entry)) ⌝ }
@@ -96,8 +96,8 @@ fn pair(rows: usize, cols: usize, p: usize, q: usize, changed: bool, w: &mut [f6
         return changed;
     }
     let rot = rotation_of(g);
-    turn(w, p * rows, q * rows, rows, rot);
-    turn(w, rows * cols + p * cols, rows * cols + q * cols, cols, rot);
+    rotate(w, p * rows, q * rows, rows, rot);
+    rotate(w, rows * cols + p * cols, rows * cols + q * cols, cols, rot);
     true
 }
 
@@ -113,7 +113,7 @@ fn pairs_of(rows: usize, cols: usize, p: usize, changed0: bool, w: &mut [f64]) -
     changed
 }
 
-// Every pair once. Says whether a pair turned.
+// Every pair once. Says whether a pair was rotated.
 pub fn sweep(rows: usize, cols: usize, w: &mut [f64]) -> bool
     requires { ⌜ Sized rows cols (now w) ⌝ }
     ensures { λ b. ⌜ (b, now (w .exit)) ≡ sweep rows cols (now (w .entry)) ⌝ }

@@ -7,7 +7,7 @@ use lib.ListN.{length, length-set}
 use Rattle.grid.specs.LoopLaws.{down-both}
 use Rattle.grid.specs.Real.{Vec, zero64}
 use Rattle.grid.specs.CellLaws.{upto-long}
-use Rattle.tred.specs.Tred.{skipStep, skipRow, clearStep, clear, overScaleStep, overScale, generate, similarStep, similarColumn, similarityStep, similarity, overHStep, overH, lessenStep, lessen, updateStep, updateColumn, updatesStep, updates, reflect, skip, reduce, householder, reduction, columnOverStep, columnOver, takeStep, takeOff, turnStep, turnColumns, clearColumnStep, clearColumn, apply, accumulate, accumulation, copyStep, copyLast, moveStep, moveLast, tred2}
+use Rattle.tred.specs.Tred.{skipStep, skipRow, clearStep, clear, overScaleStep, overScale, generate, similarStep, similarColumn, similarityStep, similarity, overHStep, overH, lessenStep, lessen, updateStep, updateColumn, updatesStep, updates, reflect, skip, reduce, householder, reduction, columnOverStep, columnOver, takeStep, takeOff, turnColumnStep, turnColumns, clearColumnStep, clearColumn, apply, accumulate, accumulation, copyStep, copyLast, moveStep, moveLast, tred2}
 
 -- ---- e through the reduction
 
@@ -122,7 +122,7 @@ take-square n m j g d v = upto-long (λ v. v) (takeStep n j g d) 0 m v (λ k v. 
 
 turnColumns-square : (n m : ℕ) (d v : Vec) → length (turnColumns n m d v) ≡ length v
 unfolding turnColumns
-turnColumns-square n m d v = upto-long (λ v. v) (turnStep n m d) 0 m v (λ j v. simp take-square)
+turnColumns-square n m d v = upto-long (λ v. v) (turnColumnStep n m d) 0 m v (λ j v. simp take-square)
 
 clear-square : (n m : ℕ) (v : Vec) → length (clearColumn n m v) ≡ length v
 unfolding clearColumn

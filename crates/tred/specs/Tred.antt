@@ -148,11 +148,11 @@ unfoldable pub columnOver : ℕ → ℕ → Float → Vec → Vec → Vec
 columnOver n m h v d = upto (columnOverStep n m h v) 0 m d
 
 -- g: column m times column j
-abbrev pub dotStep : ℕ → ℕ → ℕ → Vec → ℕ → Float → Float
-dotStep n m j v k g = g ⊕ at2 v n k m ⊗ at2 v n k j
+abbrev pub columnDotStep : ℕ → ℕ → ℕ → Vec → ℕ → Float → Float
+columnDotStep n m j v k g = g ⊕ at2 v n k m ⊗ at2 v n k j
 
-unfoldable pub dot : ℕ → ℕ → ℕ → Vec → Float
-dot n m j v = upto (dotStep n m j v) 0 m zero64
+unfoldable pub columnDot : ℕ → ℕ → ℕ → Vec → Float
+columnDot n m j v = upto (columnDotStep n m j v) 0 m zero64
 
 -- column j less g times d
 abbrev pub takeStep : ℕ → ℕ → Float → Vec → ℕ → Vec → Vec
@@ -162,13 +162,13 @@ unfoldable pub takeOff : ℕ → ℕ → ℕ → Float → Vec → Vec → Vec
 takeOff n m j g d v = upto (takeStep n j g d) 0 m v
 
 -- columns 0 .. m - 1, turned
-abbrev pub turnStep : ℕ → ℕ → Vec → ℕ → Vec → Vec
-turnStep n m d j v =
-    let g = dot n m j v in
+abbrev pub turnColumnStep : ℕ → ℕ → Vec → ℕ → Vec → Vec
+turnColumnStep n m d j v =
+    let g = columnDot n m j v in
     takeOff n m j g d v
 
 unfoldable pub turnColumns : ℕ → ℕ → Vec → Vec → Vec
-turnColumns n m d v = upto (turnStep n m d) 0 m v
+turnColumns n m d v = upto (turnColumnStep n m d) 0 m v
 
 -- column m to 0
 abbrev pub clearColumnStep : ℕ → ℕ → ℕ → Vec → Vec

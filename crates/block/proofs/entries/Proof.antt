@@ -63,11 +63,11 @@ loop-less c = omega arith
 loop-again : tie.Need-loop-again Inv-loop μ-loop
 loop-again c = (omega arith, omega (arith, c .size .ensures, size-most (c .before .before .before .before .before .before .before .args .rows) (c .before .before .before .before .before .before .before .args .columns) (c .before .number .result) (c .before .before .before .before .before .before .before .pre .0) (c .before .before .before .before .before .before .before .pre .1)), entries-next (now (c .before .before .before .before .before .before .before .args .t)) (c .before .before .before .before .before .before .before .args .rows) (c .before .before .before .before .before .before .before .args .columns) (c .before .before .before .before .before .before .before .args .count) (c .before .before .before .before .before .loop .i) (c .before .before .before .before .before .loop .last) (c .before .before .before .before .before .loop .off) (c .before .before .before .before .loop-test .taken) (c .before .before .before .entry .ensures) (c .before .before .if1 .left) (c .before .number .ensures .0) (c .size .ensures) (c .before .before .before .before .before .loop .inv .2))
 
-ended-requires : tie.Need-ended-requires Inv-loop μ-loop
-ended-requires c κs = omega arith
+end-requires : tie.Need-end-requires Inv-loop μ-loop
+end-requires c κs = omega arith
 
 returns-2 : tie.Need-returns-2 Inv-loop μ-loop
-returns-2 c = entries-done (now (c .before .before .before .before .args .t)) (c .before .before .before .before .args .rows) (c .before .before .before .before .args .columns) (c .before .before .before .before .args .count) (c .before .before .loop .i) (c .before .before .loop .last) (c .before .before .loop .off) (c .before .loop-test .left) (c .ended .ensures) (c .before .before .loop .inv .2)
+returns-2 c = entries-done (now (c .before .before .before .before .args .t)) (c .before .before .before .before .args .rows) (c .before .before .before .before .args .columns) (c .before .before .before .before .args .count) (c .before .before .loop .i) (c .before .before .loop .last) (c .before .before .loop .off) (c .before .loop-test .left) (c .end .ensures) (c .before .before .loop .inv .2)
 
 pub entries-spec : {M : Type 1} → statement M
 entries-spec =
@@ -91,5 +91,5 @@ entries-spec =
     add-i
     loop-less
     loop-again
-    ended-requires
+    end-requires
     returns-2)

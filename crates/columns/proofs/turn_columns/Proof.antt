@@ -7,13 +7,13 @@ use borrow.Author.Needs.{needs}
 use lib.ListN.{length}
 use Rattle.grid.specs.Loop.{upto}
 use Rattle.grid.specs.LoopLaws.{start, next}
-use Rattle.tred.specs.Tred.{turnStep, turnColumns}
+use Rattle.tred.specs.Tred.{turnColumnStep, turnColumns}
 use Rattle.columns.proofs.Apart.{rest}
 use Rattle.columns.proofs.turn_columns.Statement.{statement}
 use Rattle.columns.proofs.turn_columns.Tie as tie
 
 abbrev Inv-loop : tie.InvT-loop
-Inv-loop n m v₀ d j₀ v j = (j ≤ m) × (m / 4 * 4 ≤ j) × (length v ≡ length v₀) × (v ≡ upto (turnStep n m d) (m / 4 * 4) j v₀)
+Inv-loop n m v₀ d j₀ v j = (j ≤ m) × (m / 4 * 4 ≤ j) × (length v ≡ length v₀) × (v ≡ upto (turnColumnStep n m d) (m / 4 * 4) j v₀)
 
 abbrev μ-loop : tie.MeasureT-loop
 μ-loop n m v₀ d j₀ v j = m - j
@@ -27,8 +27,8 @@ mul-j c = omega arith
 loop-holds : tie.Need-loop-holds Inv-loop μ-loop
 loop-holds c = (omega arith, omega arith, refl, start _ _ _)
 
-dot-requires : tie.Need-dot-requires Inv-loop μ-loop
-dot-requires c κs = search needs
+column-dot-requires : tie.Need-column-dot-requires Inv-loop μ-loop
+column-dot-requires c κs = search needs
 
 take-off-requires : tie.Need-take-off-requires Inv-loop μ-loop
 take-off-requires c κs = search needs
@@ -40,7 +40,7 @@ loop-less : tie.Need-loop-less Inv-loop μ-loop
 loop-less c = omega arith
 
 loop-again : tie.Need-loop-again Inv-loop μ-loop
-loop-again c = (omega arith, omega arith, omega arith, next _ _ _ _ (omega arith) (c .before .before .before .before .before .before .before .loop .inv .3) (rw (← c .before .before .before .before .dot .ensures, ← c .before .before .take-off .ensures)))
+loop-again c = (omega arith, omega arith, omega arith, next _ _ _ _ (omega arith) (c .before .before .before .before .before .before .before .loop .inv .3) (rw (← c .before .before .before .before .column-dot .ensures, ← c .before .before .take-off .ensures)))
 
 same-length : tie.Need-same-length Inv-loop μ-loop
 same-length c = omega arith
@@ -58,7 +58,7 @@ turn-columns-spec =
     turn-fours-requires
     mul-j
     loop-holds
-    dot-requires
+    column-dot-requires
     take-off-requires
     add-j
     loop-less

@@ -7,13 +7,13 @@ use borrow.Author.Needs.{needs}
 use lib.ListN.{length}
 use Rattle.grid.specs.Loop.{upto}
 use Rattle.grid.specs.LoopLaws.{start}
-use Rattle.tred.specs.Tred.{turnStep}
+use Rattle.tred.specs.Tred.{turnColumnStep}
 use Rattle.columns.proofs.Apart.{fours, fours-done}
 use Rattle.columns.proofs.turn_fours.Statement.{statement}
 use Rattle.columns.proofs.turn_fours.Tie as tie
 
 abbrev Inv-loop : tie.InvT-loop
-Inv-loop n m v₀ d q₀ q-end v q = (q ≤ m / 4) × (length v ≡ length v₀) × (v ≡ upto (turnStep n m d) 0 (q * 4) v₀)
+Inv-loop n m v₀ d q₀ q-end v q = (q ≤ m / 4) × (length v ≡ length v₀) × (v ≡ upto (turnColumnStep n m d) 0 (q * 4) v₀)
 
 abbrev μ-loop : tie.MeasureT-loop
 μ-loop n m v₀ d q₀ q-end v q = m / 4 - q

@@ -5,7 +5,7 @@ use Prim.Native.Nat.{_+_, _≤_}
 use native.Mathlib.Omega.{arith}
 use borrow.Author.Needs.{needs}
 use Rattle.sweep.specs.Kept.{Sized}
-use Rattle.jacobi.specs.Jacobi.{going, swept, sweeps, ended}
+use Rattle.jacobi.specs.Jacobi.{goingAfter, swept, sweeps, ended}
 use Rattle.grid.specs.Loop.{rounds}
 use Rattle.grid.specs.LoopLaws.{rounds-stop, rounds-more, rounds-done}
 use Rattle.jacobi.specs.Run.{swept-count}
@@ -16,16 +16,16 @@ use Rattle.jacobi.proofs.sweeps.Statement.{statement}
 use Rattle.jacobi.proofs.sweeps.Tie as tie
 
 abbrev Inv-loop : tie.InvT-loop
-Inv-loop rows cols limit w₀ run₀ left₀ w run left = (left ≤ limit) × (run .count + left ≤ limit) × Sized rows cols w × (rounds (swept rows cols) ended left (run, w) ≡ rounds (swept rows cols) ended limit (going 0, w₀))
+Inv-loop rows cols limit w₀ run₀ left₀ w run left = (left ≤ limit) × (run .count + left ≤ limit) × Sized rows cols w × (rounds (swept rows cols) ended left (run, w) ≡ rounds (swept rows cols) ended limit (goingAfter 0, w₀))
 
 abbrev μ-loop : tie.MeasureT-loop
 μ-loop rows cols limit w₀ run₀ left₀ w run left = left
 
-going-requires : tie.Need-going-requires Inv-loop μ-loop
-going-requires c κs = search needs
+going-after-requires : tie.Need-going-after-requires Inv-loop μ-loop
+going-after-requires c κs = search needs
 
 loop-holds : tie.Need-loop-holds Inv-loop μ-loop
-loop-holds c = (omega arith, omega (arith, ap (λ (x : Answer). x .count) (c .going .ensures)), search needs, rw (c .going .ensures))
+loop-holds c = (omega arith, omega (arith, ap (λ (x : Answer). x .count) (c .going-after .ensures)), search needs, rw (c .going-after .ensures))
 
 swept-requires : tie.Need-swept-requires Inv-loop μ-loop
 swept-requires c κs = search needs
@@ -59,7 +59,7 @@ sweeps-spec =
     (tie.spec
     Inv-loop
     μ-loop
-    going-requires
+    going-after-requires
     loop-holds
     swept-requires
     same-length

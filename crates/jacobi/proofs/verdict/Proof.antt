@@ -15,12 +15,12 @@ returns : tie.Need-returns
 unfolding verdict
 returns c = rw (← c .before .before .is-bad .ensures, c .before .if1 .taken) (c .marked .ensures)
 
-going-requires : tie.Need-going-requires
-going-requires c κs = search needs
+going-after-requires : tie.Need-going-after-requires
+going-after-requires c κs = search needs
 
 returns-2 : tie.Need-returns-2
 unfolding verdict
-returns-2 c = rw (← c .before .before .before .is-bad .ensures, c .before .before .if1 .left, c .before .if2 .taken) (c .going .ensures)
+returns-2 c = rw (← c .before .before .before .is-bad .ensures, c .before .before .if1 .left, c .before .if2 .taken) (c .going-after .ensures)
 
 done-requires : tie.Need-done-requires
 done-requires c κs = search needs
@@ -36,7 +36,7 @@ verdict-spec =
     is-bad-requires
     marked-requires
     returns
-    going-requires
+    going-after-requires
     returns-2
     done-requires
     returns-3)

@@ -11,12 +11,12 @@ use mathlib.Core.Bool.{true}
 use Rattle.answers.specs.Answers as Answers
 use Rattle.symmetric.specs.Symmetry.{Mirror}
 use Rattle.stepend.specs.End.{went}
-use Rattle.krylov.specs.Krylov.{turn, steps}
+use Rattle.krylov.specs.Krylov.{stepIfOn, steps}
 use Rattle.krylov.proofs.steps.Statement.{statement}
 use Rattle.krylov.proofs.steps.Tie as tie
 
 abbrev Inv-loop : tie.InvT-loop
-Inv-loop n s a q₀ al₀ be₀ v₀ w₀ mirror r₀ j₀ q al be v w r j = (j ≤ s) × (length q ≡ length q₀) × (length v ≡ length v₀) × (length w ≡ length w₀) × (mirror ≡ true → Mirror n a) × ((r, q, al, be, v) ≡ upto (turn n a) 0 j (went true (Answers.done 0) 0, q₀, al₀, be₀, v₀))
+Inv-loop n s a q₀ al₀ be₀ v₀ w₀ mirror r₀ j₀ q al be v w r j = (j ≤ s) × (length q ≡ length q₀) × (length v ≡ length v₀) × (length w ≡ length w₀) × (mirror ≡ true → Mirror n a) × ((r, q, al, be, v) ≡ upto (stepIfOn n a) 0 j (went true (Answers.done 0) 0, q₀, al₀, be₀, v₀))
 
 abbrev μ-loop : tie.MeasureT-loop
 μ-loop n s a q₀ al₀ be₀ v₀ w₀ mirror r₀ j₀ q al be v w r j = s - j
@@ -30,8 +30,8 @@ done-requires c κs = search needs
 loop-holds : tie.Need-loop-holds Inv-loop μ-loop
 loop-holds c = (omega arith, refl, refl, refl, c .before .mirrored .ensures, rw (c .done .ensures) (start _ _ _))
 
-turn-requires : tie.Need-turn-requires Inv-loop μ-loop
-turn-requires c κs = (omega arith, omega arith, omega arith, c .before .before .before .before .before .before .loop .inv .4, omega arith, omega arith, omega arith, omega arith)
+step-if-on-requires : tie.Need-step-if-on-requires Inv-loop μ-loop
+step-if-on-requires c κs = (omega arith, omega arith, omega arith, c .before .before .before .before .before .before .loop .inv .4, omega arith, omega arith, omega arith, omega arith)
 
 add-j : tie.Need-add-j Inv-loop μ-loop
 add-j c = omega arith
@@ -40,7 +40,7 @@ loop-less : tie.Need-loop-less Inv-loop μ-loop
 loop-less c = omega arith
 
 loop-again : tie.Need-loop-again Inv-loop μ-loop
-loop-again c = (omega arith, omega arith, omega arith, omega arith, c .before .before .before .before .before .before .before .before .before .before .before .before .before .loop .inv .4, next _ _ _ _ (omega arith) (c .before .before .before .before .before .before .before .before .before .before .before .before .before .loop .inv .5) (c .before .before .before .before .before .before .turn .ensures))
+loop-again c = (omega arith, omega arith, omega arith, omega arith, c .before .before .before .before .before .before .before .before .before .before .before .before .before .loop .inv .4, next _ _ _ _ (omega arith) (c .before .before .before .before .before .before .before .before .before .before .before .before .before .loop .inv .5) (c .before .before .before .before .before .before .step-if-on .ensures))
 
 same-length : tie.Need-same-length Inv-loop μ-loop
 same-length c = omega arith
@@ -64,7 +64,7 @@ steps-spec =
     mirrored-requires
     done-requires
     loop-holds
-    turn-requires
+    step-if-on-requires
     add-j
     loop-less
     loop-again

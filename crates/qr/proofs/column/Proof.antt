@@ -9,8 +9,8 @@ use Rattle.qr.proofs.column.Tie as tie
 column-of-requires : tie.Need-column-of-requires
 column-of-requires c κs = search needs
 
-passes-requires : tie.Need-passes-requires
-passes-requires c κs = search needs
+less-columns-twice-requires : tie.Need-less-columns-twice-requires
+less-columns-twice-requires c κs = search needs
 
 norm-requires : tie.Need-norm-requires
 norm-requires c κs = search needs
@@ -29,14 +29,14 @@ same-length-3 c = omega arith
 
 returns : tie.Need-returns
 unfolding column
-returns c = rw (← c .before .before .before .before .before .before .before .before .before .before .before .before .before .before .before .before .before .before .before .column-of .ensures, ← c .before .before .before .before .before .before .before .before .before .before .before .before .before .passes .ensures, ← c .before .before .before .before .before .before .before .norm .ensures, ← c .before .before .before .before .finish .ensures)
+returns c = rw (← c .before .before .before .before .before .before .before .before .before .before .before .before .before .before .before .before .before .before .before .column-of .ensures, ← c .before .before .before .before .before .before .before .before .before .before .before .before .before .less-columns-twice .ensures, ← c .before .before .before .before .before .before .before .norm .ensures, ← c .before .before .before .before .finish .ensures)
 
 pub column-spec : {M : Type 1} → statement M
 column-spec =
     tie.close
     (tie.spec
     column-of-requires
-    passes-requires
+    less-columns-twice-requires
     norm-requires
     finish-requires
     same-length

@@ -7,12 +7,12 @@ use borrow.Author.Needs.{needs}
 use lib.ListN.{length}
 use Rattle.grid.specs.Loop.{upto}
 use Rattle.grid.specs.LoopLaws.{start, next, done}
-use Rattle.reorth.specs.Reorth.{against, twice}
+use Rattle.reorth.specs.Reorth.{againstAll, twice}
 use Rattle.reorth.proofs.twice.Statement.{statement}
 use Rattle.reorth.proofs.twice.Tie as tie
 
 abbrev Inv-loop : tie.InvT-loop
-Inv-loop n s j q v w₀ p₀ w p = (p ≤ 2) × (length w ≡ length w₀) × (w ≡ upto (λ p. against n j q v) 0 p w₀)
+Inv-loop n s j q v w₀ p₀ w p = (p ≤ 2) × (length w ≡ length w₀) × (w ≡ upto (λ p. againstAll n j q v) 0 p w₀)
 
 abbrev μ-loop : tie.MeasureT-loop
 μ-loop n s j q v w₀ p₀ w p = 2 - p
@@ -20,8 +20,8 @@ abbrev μ-loop : tie.MeasureT-loop
 loop-holds : tie.Need-loop-holds Inv-loop μ-loop
 loop-holds c = (omega arith, refl, start _ _ _)
 
-against-requires : tie.Need-against-requires Inv-loop μ-loop
-against-requires c κs = search needs
+against-all-requires : tie.Need-against-all-requires Inv-loop μ-loop
+against-all-requires c κs = search needs
 
 add-p : tie.Need-add-p Inv-loop μ-loop
 add-p c = omega arith
@@ -30,7 +30,7 @@ loop-less : tie.Need-loop-less Inv-loop μ-loop
 loop-less c = omega arith
 
 loop-again : tie.Need-loop-again Inv-loop μ-loop
-loop-again c = (omega arith, omega arith, next _ _ _ _ (omega arith) (c .before .before .before .before .before .loop .inv .2) (c .before .before .against .ensures))
+loop-again c = (omega arith, omega arith, next _ _ _ _ (omega arith) (c .before .before .before .before .before .loop .inv .2) (c .before .before .against-all .ensures))
 
 same-length : tie.Need-same-length Inv-loop μ-loop
 same-length c = omega arith
@@ -46,7 +46,7 @@ twice-spec =
     Inv-loop
     μ-loop
     loop-holds
-    against-requires
+    against-all-requires
     add-p
     loop-less
     loop-again

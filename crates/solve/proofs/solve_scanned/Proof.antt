@@ -3,6 +3,7 @@
 use mathlib.Core.Path.{refl}
 use native.Mathlib.Omega.{arith}
 use borrow.Author.Needs.{needs}
+use borrow.Author.Tests.{eq-eqb, ne-eqb}
 use Rattle.solution.specs.SolutionLaws.{split}
 use Rattle.solve.proofs.solve_scanned.Statement.{statement}
 use Rattle.solve.proofs.solve_scanned.Tie as tie
@@ -10,44 +11,36 @@ use Rattle.solve.proofs.solve_scanned.Tie as tie
 either-bad-requires : tie.Need-either-bad-requires
 either-bad-requires c κs = omega (arith, split _ _ _ _ (c .before .before .before .pre .0) refl .small, split _ _ _ _ (c .before .before .before .pre .0) refl .u-small, split _ _ _ _ (c .before .before .before .pre .0) refl .vt-small, split _ _ _ _ (c .before .before .before .pre .0) refl .all, c .before .before .before .pre .0 .few, c .before .before .before .pre .1)
 
-enum-known-i : tie.Need-enum-known-i
-enum-known-i c = search needs
+refusal7-requires : tie.Need-refusal7-requires
+refusal7-requires c κs = search needs
 
-enum-told : tie.Need-enum-told
-enum-told c = search needs
-
-solve-looked-requires : tie.Need-solve-looked-requires
-solve-looked-requires c κs = search needs
+refuse-requires : tie.Need-refuse-requires
+refuse-requires c κs = search needs
 
 same-length : tie.Need-same-length
 same-length c = search needs
 
 returns : tie.Need-returns
-returns c = rw (← c .before .before .before .before .before .before .either-bad .ensures, c .before .before .before .before .enum-told .given .1) (c .before .before .solve-looked .ensures)
+returns c = rw (← c .before .before .before .before .before .before .before .either-bad .ensures, ← c .before .before .before .before .before .before .refusal7 .ensures, ne-eqb _ _ (c .before .before .before .before .if1 .taken)) (c .before .before .refuse .ensures)
 
-refused-requires : tie.Need-refused-requires
-refused-requires c κs = search needs
-
-refuse-requires : tie.Need-refuse-requires
-refuse-requires c κs = search needs
+solve-looked-requires : tie.Need-solve-looked-requires
+solve-looked-requires c κs = search needs
 
 same-length-2 : tie.Need-same-length-2
 same-length-2 c = search needs
 
 returns-2 : tie.Need-returns-2
-returns-2 c = rw (← c .before .before .before .before .before .before .before .before .either-bad .ensures, c .before .before .before .before .before .before .i .given .1, ← c .before .before .before .before .refused .ensures) (c .before .before .refuse .ensures)
+returns-2 c = rw (← c .before .before .before .before .before .before .before .either-bad .ensures, ← c .before .before .before .before .before .before .refusal7 .ensures, eq-eqb _ _ (c .before .before .before .before .if1 .left)) (c .before .before .solve-looked .ensures)
 
 pub solve-scanned-spec : {M : Type 1} → statement M
 solve-scanned-spec =
     tie.close
     (tie.spec
     either-bad-requires
-    enum-known-i
-    enum-told
-    solve-looked-requires
+    refusal7-requires
+    refuse-requires
     same-length
     returns
-    refused-requires
-    refuse-requires
+    solve-looked-requires
     same-length-2
     returns-2)

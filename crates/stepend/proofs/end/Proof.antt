@@ -14,21 +14,21 @@ use Rattle.leaves.specs.Scan.{classOf}
 use Rattle.answers.specs.Answers.{answered, done}
 use Rattle.answers.specs.declared.Answer.{Answer}
 use Rattle.unit.specs.Unit.{over}
-use Rattle.stepend.specs.End.{tiny, went, ended}
+use Rattle.stepend.specs.End.{leastBeta, went, stepEnded}
 use Rattle.stepend.proofs.end.Statement.{statement}
 use Rattle.stepend.proofs.end.Tie as tie
 
 module _ (n j : ℕ) (beta : Float) (w be v : Vec) (r : Answer) where
-  refused : (c : ℕ) → isFinite beta ≡ false → c ≡ classOf beta → r ≡ answered c 5 j 0 → (went false r (j + 1), be, v) ≡ ended n j beta w be v
-  unfolding ended
+  refused : (c : ℕ) → isFinite beta ≡ false → c ≡ classOf beta → r ≡ answered c 5 j 0 → (went false r (j + 1), be, v) ≡ stepEnded n j beta w be v
+  unfolding stepEnded
   refused c e f g = rw (e, g, f)
 
-  goes-on : (x y : Vec) → isFinite beta ≡ true → lt tiny beta ≡ true → x ≡ w → y ≡ over n beta x → r ≡ done 0 → (went true r (j + 1), set be j beta, y) ≡ ended n j beta w be v
-  unfolding ended
+  goes-on : (x y : Vec) → isFinite beta ≡ true → lt leastBeta beta ≡ true → x ≡ w → y ≡ over n beta x → r ≡ done 0 → (went true r (j + 1), set be j beta, y) ≡ stepEnded n j beta w be v
+  unfolding stepEnded
   goes-on x y e f g h i = rw (e, f, i, h, g)
 
-  ends : isFinite beta ≡ true → lt tiny beta ≡ false → r ≡ done 0 → (went false r (j + 1), be, v) ≡ ended n j beta w be v
-  unfolding ended
+  ends : isFinite beta ≡ true → lt leastBeta beta ≡ false → r ≡ done 0 → (went false r (j + 1), be, v) ≡ stepEnded n j beta w be v
+  unfolding stepEnded
   ends e f i = rw (e, f, i)
 
 is-finite-requires : tie.Need-is-finite-requires

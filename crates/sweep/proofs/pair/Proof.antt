@@ -30,42 +30,42 @@ returns c = rw (← c .before .before .gram .ensures, ← c .before .skipped .en
 rotation-of-requires : tie.Need-rotation-of-requires
 rotation-of-requires c κs = search needs
 
-mul-turn : tie.Need-mul-turn
-mul-turn c = omega (arith, mul-comm (c .before .before .before .before .before .before .before .args .rows) (c .before .before .before .before .before .before .before .args .cols), row-end (c .before .before .before .before .before .before .before .args .cols) (c .before .before .before .before .before .before .before .args .rows) (c .before .before .before .before .before .before .before .args .p) (c .before .before .before .before .before .before .before .pre .0), row-end (c .before .before .before .before .before .before .before .args .cols) (c .before .before .before .before .before .before .before .args .rows) (c .before .before .before .before .before .before .before .args .q) (c .before .before .before .before .before .before .before .pre .1), row-end (c .before .before .before .before .before .before .before .args .cols) (c .before .before .before .before .before .before .before .args .cols) (c .before .before .before .before .before .before .before .args .p) (c .before .before .before .before .before .before .before .pre .0), row-end (c .before .before .before .before .before .before .before .args .cols) (c .before .before .before .before .before .before .before .args .cols) (c .before .before .before .before .before .before .before .args .q) (c .before .before .before .before .before .before .before .pre .1), c .before .before .before .before .before .before .before .pre .2)
+mul-rotate : tie.Need-mul-rotate
+mul-rotate c = omega (arith, mul-comm (c .before .before .before .before .before .before .before .args .rows) (c .before .before .before .before .before .before .before .args .cols), row-end (c .before .before .before .before .before .before .before .args .cols) (c .before .before .before .before .before .before .before .args .rows) (c .before .before .before .before .before .before .before .args .p) (c .before .before .before .before .before .before .before .pre .0), row-end (c .before .before .before .before .before .before .before .args .cols) (c .before .before .before .before .before .before .before .args .rows) (c .before .before .before .before .before .before .before .args .q) (c .before .before .before .before .before .before .before .pre .1), row-end (c .before .before .before .before .before .before .before .args .cols) (c .before .before .before .before .before .before .before .args .cols) (c .before .before .before .before .before .before .before .args .p) (c .before .before .before .before .before .before .before .pre .0), row-end (c .before .before .before .before .before .before .before .args .cols) (c .before .before .before .before .before .before .before .args .cols) (c .before .before .before .before .before .before .before .args .q) (c .before .before .before .before .before .before .before .pre .1), c .before .before .before .before .before .before .before .pre .2)
 
-mul-turn-2 : tie.Need-mul-turn-2
-mul-turn-2 c = omega (arith, mul-comm (c .before .before .before .before .before .before .before .args .rows) (c .before .before .before .before .before .before .before .args .cols), row-end (c .before .before .before .before .before .before .before .args .cols) (c .before .before .before .before .before .before .before .args .rows) (c .before .before .before .before .before .before .before .args .p) (c .before .before .before .before .before .before .before .pre .0), row-end (c .before .before .before .before .before .before .before .args .cols) (c .before .before .before .before .before .before .before .args .rows) (c .before .before .before .before .before .before .before .args .q) (c .before .before .before .before .before .before .before .pre .1), row-end (c .before .before .before .before .before .before .before .args .cols) (c .before .before .before .before .before .before .before .args .cols) (c .before .before .before .before .before .before .before .args .p) (c .before .before .before .before .before .before .before .pre .0), row-end (c .before .before .before .before .before .before .before .args .cols) (c .before .before .before .before .before .before .before .args .cols) (c .before .before .before .before .before .before .before .args .q) (c .before .before .before .before .before .before .before .pre .1), c .before .before .before .before .before .before .before .pre .2)
+mul-rotate-2 : tie.Need-mul-rotate-2
+mul-rotate-2 c = omega (arith, mul-comm (c .before .before .before .before .before .before .before .args .rows) (c .before .before .before .before .before .before .before .args .cols), row-end (c .before .before .before .before .before .before .before .args .cols) (c .before .before .before .before .before .before .before .args .rows) (c .before .before .before .before .before .before .before .args .p) (c .before .before .before .before .before .before .before .pre .0), row-end (c .before .before .before .before .before .before .before .args .cols) (c .before .before .before .before .before .before .before .args .rows) (c .before .before .before .before .before .before .before .args .q) (c .before .before .before .before .before .before .before .pre .1), row-end (c .before .before .before .before .before .before .before .args .cols) (c .before .before .before .before .before .before .before .args .cols) (c .before .before .before .before .before .before .before .args .p) (c .before .before .before .before .before .before .before .pre .0), row-end (c .before .before .before .before .before .before .before .args .cols) (c .before .before .before .before .before .before .before .args .cols) (c .before .before .before .before .before .before .before .args .q) (c .before .before .before .before .before .before .before .pre .1), c .before .before .before .before .before .before .before .pre .2)
 
-turn-requires : tie.Need-turn-requires
-turn-requires c κs = omega (arith, mul-comm (c .before .before .before .before .before .before .before .args .rows) (c .before .before .before .before .before .before .before .args .cols), row-end (c .before .before .before .before .before .before .before .args .cols) (c .before .before .before .before .before .before .before .args .rows) (c .before .before .before .before .before .before .before .args .p) (c .before .before .before .before .before .before .before .pre .0), row-end (c .before .before .before .before .before .before .before .args .cols) (c .before .before .before .before .before .before .before .args .rows) (c .before .before .before .before .before .before .before .args .q) (c .before .before .before .before .before .before .before .pre .1), row-end (c .before .before .before .before .before .before .before .args .cols) (c .before .before .before .before .before .before .before .args .cols) (c .before .before .before .before .before .before .before .args .p) (c .before .before .before .before .before .before .before .pre .0), row-end (c .before .before .before .before .before .before .before .args .cols) (c .before .before .before .before .before .before .before .args .cols) (c .before .before .before .before .before .before .before .args .q) (c .before .before .before .before .before .before .before .pre .1), c .before .before .before .before .before .before .before .pre .2)
+rotate-requires : tie.Need-rotate-requires
+rotate-requires c κs = omega (arith, mul-comm (c .before .before .before .before .before .before .before .args .rows) (c .before .before .before .before .before .before .before .args .cols), row-end (c .before .before .before .before .before .before .before .args .cols) (c .before .before .before .before .before .before .before .args .rows) (c .before .before .before .before .before .before .before .args .p) (c .before .before .before .before .before .before .before .pre .0), row-end (c .before .before .before .before .before .before .before .args .cols) (c .before .before .before .before .before .before .before .args .rows) (c .before .before .before .before .before .before .before .args .q) (c .before .before .before .before .before .before .before .pre .1), row-end (c .before .before .before .before .before .before .before .args .cols) (c .before .before .before .before .before .before .before .args .cols) (c .before .before .before .before .before .before .before .args .p) (c .before .before .before .before .before .before .before .pre .0), row-end (c .before .before .before .before .before .before .before .args .cols) (c .before .before .before .before .before .before .before .args .cols) (c .before .before .before .before .before .before .before .args .q) (c .before .before .before .before .before .before .before .pre .1), c .before .before .before .before .before .before .before .pre .2)
 
-mul-turn-3 : tie.Need-mul-turn-3
-mul-turn-3 c = omega (arith, mul-comm (c .before .before .before .before .before .before .before .before .before .before .before .args .rows) (c .before .before .before .before .before .before .before .before .before .before .before .args .cols), row-end (c .before .before .before .before .before .before .before .before .before .before .before .args .cols) (c .before .before .before .before .before .before .before .before .before .before .before .args .rows) (c .before .before .before .before .before .before .before .before .before .before .before .args .p) (c .before .before .before .before .before .before .before .before .before .before .before .pre .0), row-end (c .before .before .before .before .before .before .before .before .before .before .before .args .cols) (c .before .before .before .before .before .before .before .before .before .before .before .args .rows) (c .before .before .before .before .before .before .before .before .before .before .before .args .q) (c .before .before .before .before .before .before .before .before .before .before .before .pre .1), row-end (c .before .before .before .before .before .before .before .before .before .before .before .args .cols) (c .before .before .before .before .before .before .before .before .before .before .before .args .cols) (c .before .before .before .before .before .before .before .before .before .before .before .args .p) (c .before .before .before .before .before .before .before .before .before .before .before .pre .0), row-end (c .before .before .before .before .before .before .before .before .before .before .before .args .cols) (c .before .before .before .before .before .before .before .before .before .before .before .args .cols) (c .before .before .before .before .before .before .before .before .before .before .before .args .q) (c .before .before .before .before .before .before .before .before .before .before .before .pre .1), c .before .before .before .before .before .before .before .before .before .before .before .pre .2)
+mul-rotate-3 : tie.Need-mul-rotate-3
+mul-rotate-3 c = omega (arith, mul-comm (c .before .before .before .before .before .before .before .before .before .before .before .args .rows) (c .before .before .before .before .before .before .before .before .before .before .before .args .cols), row-end (c .before .before .before .before .before .before .before .before .before .before .before .args .cols) (c .before .before .before .before .before .before .before .before .before .before .before .args .rows) (c .before .before .before .before .before .before .before .before .before .before .before .args .p) (c .before .before .before .before .before .before .before .before .before .before .before .pre .0), row-end (c .before .before .before .before .before .before .before .before .before .before .before .args .cols) (c .before .before .before .before .before .before .before .before .before .before .before .args .rows) (c .before .before .before .before .before .before .before .before .before .before .before .args .q) (c .before .before .before .before .before .before .before .before .before .before .before .pre .1), row-end (c .before .before .before .before .before .before .before .before .before .before .before .args .cols) (c .before .before .before .before .before .before .before .before .before .before .before .args .cols) (c .before .before .before .before .before .before .before .before .before .before .before .args .p) (c .before .before .before .before .before .before .before .before .before .before .before .pre .0), row-end (c .before .before .before .before .before .before .before .before .before .before .before .args .cols) (c .before .before .before .before .before .before .before .before .before .before .before .args .cols) (c .before .before .before .before .before .before .before .before .before .before .before .args .q) (c .before .before .before .before .before .before .before .before .before .before .before .pre .1), c .before .before .before .before .before .before .before .before .before .before .before .pre .2)
 
-mul-turn-4 : tie.Need-mul-turn-4
-mul-turn-4 c = omega (arith, mul-comm (c .before .before .before .before .before .before .before .before .before .before .before .args .rows) (c .before .before .before .before .before .before .before .before .before .before .before .args .cols), row-end (c .before .before .before .before .before .before .before .before .before .before .before .args .cols) (c .before .before .before .before .before .before .before .before .before .before .before .args .rows) (c .before .before .before .before .before .before .before .before .before .before .before .args .p) (c .before .before .before .before .before .before .before .before .before .before .before .pre .0), row-end (c .before .before .before .before .before .before .before .before .before .before .before .args .cols) (c .before .before .before .before .before .before .before .before .before .before .before .args .rows) (c .before .before .before .before .before .before .before .before .before .before .before .args .q) (c .before .before .before .before .before .before .before .before .before .before .before .pre .1), row-end (c .before .before .before .before .before .before .before .before .before .before .before .args .cols) (c .before .before .before .before .before .before .before .before .before .before .before .args .cols) (c .before .before .before .before .before .before .before .before .before .before .before .args .p) (c .before .before .before .before .before .before .before .before .before .before .before .pre .0), row-end (c .before .before .before .before .before .before .before .before .before .before .before .args .cols) (c .before .before .before .before .before .before .before .before .before .before .before .args .cols) (c .before .before .before .before .before .before .before .before .before .before .before .args .q) (c .before .before .before .before .before .before .before .before .before .before .before .pre .1), c .before .before .before .before .before .before .before .before .before .before .before .pre .2)
+mul-rotate-4 : tie.Need-mul-rotate-4
+mul-rotate-4 c = omega (arith, mul-comm (c .before .before .before .before .before .before .before .before .before .before .before .args .rows) (c .before .before .before .before .before .before .before .before .before .before .before .args .cols), row-end (c .before .before .before .before .before .before .before .before .before .before .before .args .cols) (c .before .before .before .before .before .before .before .before .before .before .before .args .rows) (c .before .before .before .before .before .before .before .before .before .before .before .args .p) (c .before .before .before .before .before .before .before .before .before .before .before .pre .0), row-end (c .before .before .before .before .before .before .before .before .before .before .before .args .cols) (c .before .before .before .before .before .before .before .before .before .before .before .args .rows) (c .before .before .before .before .before .before .before .before .before .before .before .args .q) (c .before .before .before .before .before .before .before .before .before .before .before .pre .1), row-end (c .before .before .before .before .before .before .before .before .before .before .before .args .cols) (c .before .before .before .before .before .before .before .before .before .before .before .args .cols) (c .before .before .before .before .before .before .before .before .before .before .before .args .p) (c .before .before .before .before .before .before .before .before .before .before .before .pre .0), row-end (c .before .before .before .before .before .before .before .before .before .before .before .args .cols) (c .before .before .before .before .before .before .before .before .before .before .before .args .cols) (c .before .before .before .before .before .before .before .before .before .before .before .args .q) (c .before .before .before .before .before .before .before .before .before .before .before .pre .1), c .before .before .before .before .before .before .before .before .before .before .before .pre .2)
 
-add-turn : tie.Need-add-turn
-add-turn c = omega (arith, mul-comm (c .before .before .before .before .before .before .before .before .before .before .before .args .rows) (c .before .before .before .before .before .before .before .before .before .before .before .args .cols), row-end (c .before .before .before .before .before .before .before .before .before .before .before .args .cols) (c .before .before .before .before .before .before .before .before .before .before .before .args .rows) (c .before .before .before .before .before .before .before .before .before .before .before .args .p) (c .before .before .before .before .before .before .before .before .before .before .before .pre .0), row-end (c .before .before .before .before .before .before .before .before .before .before .before .args .cols) (c .before .before .before .before .before .before .before .before .before .before .before .args .rows) (c .before .before .before .before .before .before .before .before .before .before .before .args .q) (c .before .before .before .before .before .before .before .before .before .before .before .pre .1), row-end (c .before .before .before .before .before .before .before .before .before .before .before .args .cols) (c .before .before .before .before .before .before .before .before .before .before .before .args .cols) (c .before .before .before .before .before .before .before .before .before .before .before .args .p) (c .before .before .before .before .before .before .before .before .before .before .before .pre .0), row-end (c .before .before .before .before .before .before .before .before .before .before .before .args .cols) (c .before .before .before .before .before .before .before .before .before .before .before .args .cols) (c .before .before .before .before .before .before .before .before .before .before .before .args .q) (c .before .before .before .before .before .before .before .before .before .before .before .pre .1), c .before .before .before .before .before .before .before .before .before .before .before .pre .2)
+add-rotate : tie.Need-add-rotate
+add-rotate c = omega (arith, mul-comm (c .before .before .before .before .before .before .before .before .before .before .before .args .rows) (c .before .before .before .before .before .before .before .before .before .before .before .args .cols), row-end (c .before .before .before .before .before .before .before .before .before .before .before .args .cols) (c .before .before .before .before .before .before .before .before .before .before .before .args .rows) (c .before .before .before .before .before .before .before .before .before .before .before .args .p) (c .before .before .before .before .before .before .before .before .before .before .before .pre .0), row-end (c .before .before .before .before .before .before .before .before .before .before .before .args .cols) (c .before .before .before .before .before .before .before .before .before .before .before .args .rows) (c .before .before .before .before .before .before .before .before .before .before .before .args .q) (c .before .before .before .before .before .before .before .before .before .before .before .pre .1), row-end (c .before .before .before .before .before .before .before .before .before .before .before .args .cols) (c .before .before .before .before .before .before .before .before .before .before .before .args .cols) (c .before .before .before .before .before .before .before .before .before .before .before .args .p) (c .before .before .before .before .before .before .before .before .before .before .before .pre .0), row-end (c .before .before .before .before .before .before .before .before .before .before .before .args .cols) (c .before .before .before .before .before .before .before .before .before .before .before .args .cols) (c .before .before .before .before .before .before .before .before .before .before .before .args .q) (c .before .before .before .before .before .before .before .before .before .before .before .pre .1), c .before .before .before .before .before .before .before .before .before .before .before .pre .2)
 
-mul-turn-5 : tie.Need-mul-turn-5
-mul-turn-5 c = omega (arith, mul-comm (c .before .before .before .before .before .before .before .before .before .before .before .args .rows) (c .before .before .before .before .before .before .before .before .before .before .before .args .cols), row-end (c .before .before .before .before .before .before .before .before .before .before .before .args .cols) (c .before .before .before .before .before .before .before .before .before .before .before .args .rows) (c .before .before .before .before .before .before .before .before .before .before .before .args .p) (c .before .before .before .before .before .before .before .before .before .before .before .pre .0), row-end (c .before .before .before .before .before .before .before .before .before .before .before .args .cols) (c .before .before .before .before .before .before .before .before .before .before .before .args .rows) (c .before .before .before .before .before .before .before .before .before .before .before .args .q) (c .before .before .before .before .before .before .before .before .before .before .before .pre .1), row-end (c .before .before .before .before .before .before .before .before .before .before .before .args .cols) (c .before .before .before .before .before .before .before .before .before .before .before .args .cols) (c .before .before .before .before .before .before .before .before .before .before .before .args .p) (c .before .before .before .before .before .before .before .before .before .before .before .pre .0), row-end (c .before .before .before .before .before .before .before .before .before .before .before .args .cols) (c .before .before .before .before .before .before .before .before .before .before .before .args .cols) (c .before .before .before .before .before .before .before .before .before .before .before .args .q) (c .before .before .before .before .before .before .before .before .before .before .before .pre .1), c .before .before .before .before .before .before .before .before .before .before .before .pre .2)
+mul-rotate-5 : tie.Need-mul-rotate-5
+mul-rotate-5 c = omega (arith, mul-comm (c .before .before .before .before .before .before .before .before .before .before .before .args .rows) (c .before .before .before .before .before .before .before .before .before .before .before .args .cols), row-end (c .before .before .before .before .before .before .before .before .before .before .before .args .cols) (c .before .before .before .before .before .before .before .before .before .before .before .args .rows) (c .before .before .before .before .before .before .before .before .before .before .before .args .p) (c .before .before .before .before .before .before .before .before .before .before .before .pre .0), row-end (c .before .before .before .before .before .before .before .before .before .before .before .args .cols) (c .before .before .before .before .before .before .before .before .before .before .before .args .rows) (c .before .before .before .before .before .before .before .before .before .before .before .args .q) (c .before .before .before .before .before .before .before .before .before .before .before .pre .1), row-end (c .before .before .before .before .before .before .before .before .before .before .before .args .cols) (c .before .before .before .before .before .before .before .before .before .before .before .args .cols) (c .before .before .before .before .before .before .before .before .before .before .before .args .p) (c .before .before .before .before .before .before .before .before .before .before .before .pre .0), row-end (c .before .before .before .before .before .before .before .before .before .before .before .args .cols) (c .before .before .before .before .before .before .before .before .before .before .before .args .cols) (c .before .before .before .before .before .before .before .before .before .before .before .args .q) (c .before .before .before .before .before .before .before .before .before .before .before .pre .1), c .before .before .before .before .before .before .before .before .before .before .before .pre .2)
 
-mul-turn-6 : tie.Need-mul-turn-6
-mul-turn-6 c = omega (arith, mul-comm (c .before .before .before .before .before .before .before .before .before .before .before .args .rows) (c .before .before .before .before .before .before .before .before .before .before .before .args .cols), row-end (c .before .before .before .before .before .before .before .before .before .before .before .args .cols) (c .before .before .before .before .before .before .before .before .before .before .before .args .rows) (c .before .before .before .before .before .before .before .before .before .before .before .args .p) (c .before .before .before .before .before .before .before .before .before .before .before .pre .0), row-end (c .before .before .before .before .before .before .before .before .before .before .before .args .cols) (c .before .before .before .before .before .before .before .before .before .before .before .args .rows) (c .before .before .before .before .before .before .before .before .before .before .before .args .q) (c .before .before .before .before .before .before .before .before .before .before .before .pre .1), row-end (c .before .before .before .before .before .before .before .before .before .before .before .args .cols) (c .before .before .before .before .before .before .before .before .before .before .before .args .cols) (c .before .before .before .before .before .before .before .before .before .before .before .args .p) (c .before .before .before .before .before .before .before .before .before .before .before .pre .0), row-end (c .before .before .before .before .before .before .before .before .before .before .before .args .cols) (c .before .before .before .before .before .before .before .before .before .before .before .args .cols) (c .before .before .before .before .before .before .before .before .before .before .before .args .q) (c .before .before .before .before .before .before .before .before .before .before .before .pre .1), c .before .before .before .before .before .before .before .before .before .before .before .pre .2)
+mul-rotate-6 : tie.Need-mul-rotate-6
+mul-rotate-6 c = omega (arith, mul-comm (c .before .before .before .before .before .before .before .before .before .before .before .args .rows) (c .before .before .before .before .before .before .before .before .before .before .before .args .cols), row-end (c .before .before .before .before .before .before .before .before .before .before .before .args .cols) (c .before .before .before .before .before .before .before .before .before .before .before .args .rows) (c .before .before .before .before .before .before .before .before .before .before .before .args .p) (c .before .before .before .before .before .before .before .before .before .before .before .pre .0), row-end (c .before .before .before .before .before .before .before .before .before .before .before .args .cols) (c .before .before .before .before .before .before .before .before .before .before .before .args .rows) (c .before .before .before .before .before .before .before .before .before .before .before .args .q) (c .before .before .before .before .before .before .before .before .before .before .before .pre .1), row-end (c .before .before .before .before .before .before .before .before .before .before .before .args .cols) (c .before .before .before .before .before .before .before .before .before .before .before .args .cols) (c .before .before .before .before .before .before .before .before .before .before .before .args .p) (c .before .before .before .before .before .before .before .before .before .before .before .pre .0), row-end (c .before .before .before .before .before .before .before .before .before .before .before .args .cols) (c .before .before .before .before .before .before .before .before .before .before .before .args .cols) (c .before .before .before .before .before .before .before .before .before .before .before .args .q) (c .before .before .before .before .before .before .before .before .before .before .before .pre .1), c .before .before .before .before .before .before .before .before .before .before .before .pre .2)
 
-add-turn-2 : tie.Need-add-turn-2
-add-turn-2 c = omega (arith, mul-comm (c .before .before .before .before .before .before .before .before .before .before .before .args .rows) (c .before .before .before .before .before .before .before .before .before .before .before .args .cols), row-end (c .before .before .before .before .before .before .before .before .before .before .before .args .cols) (c .before .before .before .before .before .before .before .before .before .before .before .args .rows) (c .before .before .before .before .before .before .before .before .before .before .before .args .p) (c .before .before .before .before .before .before .before .before .before .before .before .pre .0), row-end (c .before .before .before .before .before .before .before .before .before .before .before .args .cols) (c .before .before .before .before .before .before .before .before .before .before .before .args .rows) (c .before .before .before .before .before .before .before .before .before .before .before .args .q) (c .before .before .before .before .before .before .before .before .before .before .before .pre .1), row-end (c .before .before .before .before .before .before .before .before .before .before .before .args .cols) (c .before .before .before .before .before .before .before .before .before .before .before .args .cols) (c .before .before .before .before .before .before .before .before .before .before .before .args .p) (c .before .before .before .before .before .before .before .before .before .before .before .pre .0), row-end (c .before .before .before .before .before .before .before .before .before .before .before .args .cols) (c .before .before .before .before .before .before .before .before .before .before .before .args .cols) (c .before .before .before .before .before .before .before .before .before .before .before .args .q) (c .before .before .before .before .before .before .before .before .before .before .before .pre .1), c .before .before .before .before .before .before .before .before .before .before .before .pre .2)
+add-rotate-2 : tie.Need-add-rotate-2
+add-rotate-2 c = omega (arith, mul-comm (c .before .before .before .before .before .before .before .before .before .before .before .args .rows) (c .before .before .before .before .before .before .before .before .before .before .before .args .cols), row-end (c .before .before .before .before .before .before .before .before .before .before .before .args .cols) (c .before .before .before .before .before .before .before .before .before .before .before .args .rows) (c .before .before .before .before .before .before .before .before .before .before .before .args .p) (c .before .before .before .before .before .before .before .before .before .before .before .pre .0), row-end (c .before .before .before .before .before .before .before .before .before .before .before .args .cols) (c .before .before .before .before .before .before .before .before .before .before .before .args .rows) (c .before .before .before .before .before .before .before .before .before .before .before .args .q) (c .before .before .before .before .before .before .before .before .before .before .before .pre .1), row-end (c .before .before .before .before .before .before .before .before .before .before .before .args .cols) (c .before .before .before .before .before .before .before .before .before .before .before .args .cols) (c .before .before .before .before .before .before .before .before .before .before .before .args .p) (c .before .before .before .before .before .before .before .before .before .before .before .pre .0), row-end (c .before .before .before .before .before .before .before .before .before .before .before .args .cols) (c .before .before .before .before .before .before .before .before .before .before .before .args .cols) (c .before .before .before .before .before .before .before .before .before .before .before .args .q) (c .before .before .before .before .before .before .before .before .before .before .before .pre .1), c .before .before .before .before .before .before .before .before .before .before .before .pre .2)
 
-turn-requires-2 : tie.Need-turn-requires-2
-turn-requires-2 c κs = omega (arith, mul-comm (c .before .before .before .before .before .before .before .before .before .before .before .args .rows) (c .before .before .before .before .before .before .before .before .before .before .before .args .cols), row-end (c .before .before .before .before .before .before .before .before .before .before .before .args .cols) (c .before .before .before .before .before .before .before .before .before .before .before .args .rows) (c .before .before .before .before .before .before .before .before .before .before .before .args .p) (c .before .before .before .before .before .before .before .before .before .before .before .pre .0), row-end (c .before .before .before .before .before .before .before .before .before .before .before .args .cols) (c .before .before .before .before .before .before .before .before .before .before .before .args .rows) (c .before .before .before .before .before .before .before .before .before .before .before .args .q) (c .before .before .before .before .before .before .before .before .before .before .before .pre .1), row-end (c .before .before .before .before .before .before .before .before .before .before .before .args .cols) (c .before .before .before .before .before .before .before .before .before .before .before .args .cols) (c .before .before .before .before .before .before .before .before .before .before .before .args .p) (c .before .before .before .before .before .before .before .before .before .before .before .pre .0), row-end (c .before .before .before .before .before .before .before .before .before .before .before .args .cols) (c .before .before .before .before .before .before .before .before .before .before .before .args .cols) (c .before .before .before .before .before .before .before .before .before .before .before .args .q) (c .before .before .before .before .before .before .before .before .before .before .before .pre .1), c .before .before .before .before .before .before .before .before .before .before .before .pre .2)
+rotate-requires-2 : tie.Need-rotate-requires-2
+rotate-requires-2 c κs = omega (arith, mul-comm (c .before .before .before .before .before .before .before .before .before .before .before .args .rows) (c .before .before .before .before .before .before .before .before .before .before .before .args .cols), row-end (c .before .before .before .before .before .before .before .before .before .before .before .args .cols) (c .before .before .before .before .before .before .before .before .before .before .before .args .rows) (c .before .before .before .before .before .before .before .before .before .before .before .args .p) (c .before .before .before .before .before .before .before .before .before .before .before .pre .0), row-end (c .before .before .before .before .before .before .before .before .before .before .before .args .cols) (c .before .before .before .before .before .before .before .before .before .before .before .args .rows) (c .before .before .before .before .before .before .before .before .before .before .before .args .q) (c .before .before .before .before .before .before .before .before .before .before .before .pre .1), row-end (c .before .before .before .before .before .before .before .before .before .before .before .args .cols) (c .before .before .before .before .before .before .before .before .before .before .before .args .cols) (c .before .before .before .before .before .before .before .before .before .before .before .args .p) (c .before .before .before .before .before .before .before .before .before .before .before .pre .0), row-end (c .before .before .before .before .before .before .before .before .before .before .before .args .cols) (c .before .before .before .before .before .before .before .before .before .before .before .args .cols) (c .before .before .before .before .before .before .before .before .before .before .before .args .q) (c .before .before .before .before .before .before .before .before .before .before .before .pre .1), c .before .before .before .before .before .before .before .before .before .before .before .pre .2)
 
 same-length-2 : tie.Need-same-length-2
 same-length-2 c = omega arith
 
 returns-2 : tie.Need-returns-2
 unfolding pairDone
-returns-2 c = rw (← c .before .before .before .before .before .before .before .before .before .before .before .gram .ensures, ← c .before .before .before .before .before .before .before .before .before .before .skipped .ensures, c .before .before .before .before .before .before .before .before .before .if1 .left, ← c .before .before .before .before .before .before .before .before .rotation-of .ensures, ← c .before .before .before .before .before .before .turn .ensures, ← c .before .before .turn2 .ensures)
+returns-2 c = rw (← c .before .before .before .before .before .before .before .before .before .before .before .gram .ensures, ← c .before .before .before .before .before .before .before .before .before .before .skipped .ensures, c .before .before .before .before .before .before .before .before .before .if1 .left, ← c .before .before .before .before .before .before .before .before .rotation-of .ensures, ← c .before .before .before .before .before .before .rotate .ensures, ← c .before .before .rotate2 .ensures)
 
 pub pair-spec : {M : Type 1} → statement M
 pair-spec =
@@ -78,15 +78,15 @@ pair-spec =
     same-length
     returns
     rotation-of-requires
-    mul-turn
-    mul-turn-2
-    turn-requires
-    mul-turn-3
-    mul-turn-4
-    add-turn
-    mul-turn-5
-    mul-turn-6
-    add-turn-2
-    turn-requires-2
+    mul-rotate
+    mul-rotate-2
+    rotate-requires
+    mul-rotate-3
+    mul-rotate-4
+    add-rotate
+    mul-rotate-5
+    mul-rotate-6
+    add-rotate-2
+    rotate-requires-2
     same-length-2
     returns-2)

@@ -1,5 +1,5 @@
 -- Generated from the answers file beside it by tools/prove/prove.py: edit that.
--- `sweep::turn` meets its contract.
+-- `sweep::rotate` meets its contract.
 use mathlib.Core.Path.{_≡_, refl}
 use Prim.Native.Nat.{_-_, _≤_}
 use native.Mathlib.Omega.{arith}
@@ -7,12 +7,12 @@ use borrow.Author.Needs.{needs}
 use lib.ListN.{length}
 use Rattle.grid.specs.Loop.{upto}
 use Rattle.grid.specs.LoopLaws.{start, next, done}
-use Rattle.sweep.specs.Sweep.{turnStep, turned}
-use Rattle.sweep.proofs.turn.Statement.{statement}
-use Rattle.sweep.proofs.turn.Tie as tie
+use Rattle.sweep.specs.Sweep.{rotateStep, rotated}
+use Rattle.sweep.proofs.rotate.Statement.{statement}
+use Rattle.sweep.proofs.rotate.Tie as tie
 
 abbrev Inv-loop : tie.InvT-loop
-Inv-loop w₀ a b rows rot i₀ w i = (i ≤ rows) × (length w ≡ length w₀) × (w ≡ upto (turnStep a b rot) 0 i w₀)
+Inv-loop w₀ a b rows rot i₀ w i = (i ≤ rows) × (length w ≡ length w₀) × (w ≡ upto (rotateStep a b rot) 0 i w₀)
 
 abbrev μ-loop : tie.MeasureT-loop
 μ-loop w₀ a b rows rot i₀ w i = rows - i
@@ -57,11 +57,11 @@ same-length : tie.Need-same-length Inv-loop μ-loop
 same-length c = omega arith
 
 returns : tie.Need-returns Inv-loop μ-loop
-unfolding turned
+unfolding rotated
 returns c = done _ _ _ (omega arith) (omega arith) (c .before .loop .inv .2)
 
-pub turn-spec : {M : Type 1} → statement M
-turn-spec =
+pub rotate-spec : {M : Type 1} → statement M
+rotate-spec =
     tie.close
     (tie.spec
     Inv-loop

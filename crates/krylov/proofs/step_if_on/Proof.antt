@@ -1,13 +1,13 @@
 -- Generated from the answers file beside it by tools/prove/prove.py: edit that.
--- `krylov::turn` meets its contract.
+-- `krylov::step_if_on` meets its contract.
 use native.Mathlib.Omega.{arith}
-use Rattle.krylov.specs.Krylov.{turn}
+use Rattle.krylov.specs.Krylov.{stepIfOn}
 use borrow.Author.Tests.{not-true, not-false}
-use Rattle.krylov.proofs.turn.Statement.{statement}
-use Rattle.krylov.proofs.turn.Tie as tie
+use Rattle.krylov.proofs.step_if_on.Statement.{statement}
+use Rattle.krylov.proofs.step_if_on.Tie as tie
 
 returns : tie.Need-returns
-unfolding turn
+unfolding stepIfOn
 returns c = rw (not-true (c .before .before .before .before .before .before .args .r .on) (c .if1 .taken))
 
 step-requires : tie.Need-step-requires
@@ -23,9 +23,9 @@ same-length-3 : tie.Need-same-length-3
 same-length-3 c = omega arith
 
 returns-2 : tie.Need-returns-2
-unfolding turn
+unfolding stepIfOn
 returns-2 c = rw (not-false (c .before .before .before .before .before .before .before .before .before .before .before .before .before .before .before .before .before .before .args .r .on) (c .before .before .before .before .before .before .before .before .before .before .before .before .if1 .left)) (c .before .before .before .before .before .before .step .ensures)
 
-pub turn-spec : {M : Type 1} → statement M
-turn-spec =
+pub step-if-on-spec : {M : Type 1} → statement M
+step-if-on-spec =
     tie.close (tie.spec returns step-requires same-length same-length-2 same-length-3 returns-2)

@@ -1,5 +1,5 @@
 -- Generated from the answers file beside it by tools/prove/prove.py: edit that.
--- `reorth::against` meets its contract.
+-- `reorth::against_all` meets its contract.
 use mathlib.Core.Path.{refl}
 use Prim.Native.Nat.{_+_, _-_, _*_}
 use native.Mathlib.Omega.{arith}
@@ -7,8 +7,8 @@ use borrow.Author.Needs.{needs}
 use Rattle.reorth.specs.Against.{against-none, against-whole}
 use Rattle.grid.specs.TableLaws.{row-end, length-part}
 use denote.Ref.{now}
-use Rattle.reorth.proofs.against.Statement.{statement}
-use Rattle.reorth.proofs.against.Tie as tie
+use Rattle.reorth.proofs.against_all.Statement.{statement}
+use Rattle.reorth.proofs.against_all.Tie as tie
 
 lessen-requires : tie.Need-lessen-requires
 lessen-requires c κs = search needs
@@ -55,8 +55,8 @@ same-length-2 c = omega arith
 returns-2 : tie.Need-returns-2
 returns-2 c = against-whole (c .before .before .before .before .before .before .before .before .before .before .before .before .before .before .before .before .before .args .n) (now (c .before .before .before .before .before .before .before .before .before .before .before .before .before .before .before .before .before .args .q)) (now (c .before .before .before .before .before .before .before .before .before .before .before .before .before .before .before .before .before .args .w)) (c .before .before .before .before .before .before .before .before .before .before .before .before .before .before .before .before .before .args .j) _ _ (now (c .before .before .before .before .before .before .before .before .before .before .before .before .before .before .before .before .before .args .v)) _ _ _ _ (omega arith) refl (c .before .before .before .before .before .before .before .before .before .before .before .past .ensures) (c .before .before .before .before .before .before .add-dot .ensures) (c .before .before .add .ensures)
 
-pub against-spec : {M : Type 1} → statement M
-against-spec =
+pub against-all-spec : {M : Type 1} → statement M
+against-all-spec =
     tie.close
     (tie.spec
     lessen-requires

@@ -1,5 +1,5 @@
 -- Generated from the answers file beside it by tools/prove/prove.py: edit that.
--- `gram::pass` meets its contract.
+-- `gram::less_columns` meets its contract.
 use mathlib.Core.Path.{_≡_, refl}
 use Prim.Native.Nat.{_-_, _≤_}
 use native.Mathlib.Omega.{arith}
@@ -7,12 +7,12 @@ use borrow.Author.Needs.{needs}
 use lib.ListN.{length}
 use Rattle.grid.specs.Loop.{upto}
 use Rattle.grid.specs.LoopLaws.{start, next, done}
-use Rattle.gram.specs.Gram.{passStep, pass}
-use Rattle.gram.proofs.pass.Statement.{statement}
-use Rattle.gram.proofs.pass.Tie as tie
+use Rattle.gram.specs.Gram.{lessColumn, lessColumns}
+use Rattle.gram.proofs.less_columns.Statement.{statement}
+use Rattle.gram.proofs.less_columns.Tie as tie
 
 abbrev Inv-loop : tie.InvT-loop
-Inv-loop m k j q b₀ c₀ i₀ b c i = (i ≤ j) × (length b ≡ length b₀) × (length c ≡ length c₀) × (c ≡ upto (passStep m k q) 0 i c₀)
+Inv-loop m k j q b₀ c₀ i₀ b c i = (i ≤ j) × (length b ≡ length b₀) × (length c ≡ length c₀) × (c ≡ upto (lessColumn m k q) 0 i c₀)
 
 abbrev μ-loop : tie.MeasureT-loop
 μ-loop m k j q b₀ c₀ i₀ b c i = j - i
@@ -45,11 +45,11 @@ same-length-2 : tie.Need-same-length-2 Inv-loop μ-loop
 same-length-2 c = omega arith
 
 returns : tie.Need-returns Inv-loop μ-loop
-unfolding pass
+unfolding lessColumns
 returns c = done _ _ _ (omega arith) (omega arith) (c .before .loop .inv .3)
 
-pub pass-spec : {M : Type 1} → statement M
-pass-spec =
+pub less-columns-spec : {M : Type 1} → statement M
+less-columns-spec =
     tie.close
     (tie.spec
     Inv-loop

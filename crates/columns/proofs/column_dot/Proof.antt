@@ -1,18 +1,18 @@
 -- Generated from the answers file beside it by tools/prove/prove.py: edit that.
--- `columns::dot` meets its contract.
+-- `columns::column_dot` meets its contract.
 use mathlib.Core.Path.{_≡_}
 use Prim.Native.Nat.{_-_, _≤_}
 use native.Mathlib.Omega.{arith}
 use borrow.Author.Needs.{needs}
 use Rattle.grid.specs.Loop.{upto}
 use Rattle.grid.specs.LoopLaws.{start, next, done}
-use Rattle.tred.specs.Tred.{dotStep, dot}
+use Rattle.tred.specs.Tred.{columnDotStep, columnDot}
 use Rattle.grid.specs.Real.{zero64}
-use Rattle.columns.proofs.dot.Statement.{statement}
-use Rattle.columns.proofs.dot.Tie as tie
+use Rattle.columns.proofs.column_dot.Statement.{statement}
+use Rattle.columns.proofs.column_dot.Tie as tie
 
 abbrev Inv-loop : tie.InvT-loop
-Inv-loop n m j v g₀ k₀ g k = (k ≤ m) × (g ≡ upto (dotStep n m j v) 0 k zero64)
+Inv-loop n m j v g₀ k₀ g k = (k ≤ m) × (g ≡ upto (columnDotStep n m j v) 0 k zero64)
 
 abbrev μ-loop : tie.MeasureT-loop
 μ-loop n m j v g₀ k₀ g k = m - k
@@ -36,11 +36,11 @@ loop-again : tie.Need-loop-again Inv-loop μ-loop
 loop-again c = (omega arith, next _ _ _ _ (omega arith) (c .before .before .before .loop .inv .1) (rw (← c .before .at .ensures, ← c .at2 .ensures)))
 
 returns : tie.Need-returns Inv-loop μ-loop
-unfolding dot
+unfolding columnDot
 returns c = done _ _ _ (omega arith) (omega arith) (c .before .loop .inv .1)
 
-pub dot-spec : {M : Type 1} → statement M
-dot-spec =
+pub column-dot-spec : {M : Type 1} → statement M
+column-dot-spec =
     tie.close
     (tie.spec
     Inv-loop
