@@ -5,6 +5,7 @@ use mathlib.Core.Bool.{Bool, true, false, cond}
 use mathlib.Core.List.{List, [], _++_, append-nil}
 use Prim.Native.Nat.{ℕ, _+_, _*_, _-_, _≤_}
 use native.Mathlib.Omega.{arith}
+use borrow.Author.Tests.{le-ltb, le-leb, eq-eqb}
 use borrow.Rule.Slice.PartMut.{midOf, putMid, same-len-mid}
 use lib.ListN.{length, take, drop, length-append, length-drop, length-replicate, replicate-append-replicate, drop-of-length-le}
 use lib.Seq.{take-all, take-at, drop-at, length-take-le}
@@ -13,11 +14,22 @@ use Rattle.answers.specs.Answers.{passed}
 use Rattle.answers.specs.declared.Answer.{Answer}
 use Rattle.handed.specs.Laid.{laid}
 use Rattle.layout.specs.Layout.{rows}
-use Rattle.eigen.specs.Eigen.{decomposed, given, cleared}
+use Rattle.checks.specs.Checks.{editionGood, limitGood, lengths}
+use Rattle.checks.specs.EditionLaws.{edition-lengths}
+use Rattle.eigen.specs.Eigen.{decomposed, given, cleared, entered, eigen}
 
 -- after the run: where it is done the vectors stand row by row
 unfoldable pub outward : ℕ → Answer × Vec × Vec × Vec → Answer × Vec × Vec × Vec
 outward n (x, v, d, e) = cond (passed x) (x, rows n v, d, e) (x, v, d, e)
+
+-- ---- a call that passes its checks
+
+pub checks-pass : (n limit edition : ℕ) (a work result : Vec) → n ≤ 256 → 1 ≤ limit → limit ≤ 60 → editionGood edition ≡ true → length a ≡ n * n → length work ≡ n → length result ≡ n + n * n
+    → eigen n limit edition a work result ≡ entered n limit edition a
+unfolding eigen limitGood lengths
+checks-pass n limit edition a work result small least most good square works room =
+    rw (edition-lengths edition (length a) (n * n) (length work) n (length result) (n + n * n) good)
+    (simp (le-ltb 256 n small, le-leb 1 limit least, le-leb limit 60 most, eq-eqb (length a) (n * n) square, eq-eqb (length work) n works, eq-eqb (length result) (n + n * n) room))
 
 -- ---- the parts of a list of zeros
 

@@ -21,7 +21,7 @@ use Rattle.tred.specs.Lower.{lower}
 use Rattle.layout.specs.Layout.{columns}
 use Rattle.aftertred.specs.AfterTred.{afterTred}
 use Rattle.eigen.specs.Eigen.{decomposed, cleared, given, entered, eigen}
-use Rattle.exact.specs.Copies.{columns-cell, columns-long}
+use Rattle.layout.specs.Copies.{columns-cell, columns-long}
 use Rattle.exact.specs.Document.{SymmetricEigen}
 use Rattle.exact.specs.DocumentLaws.{symmetric-eigen-once}
 use Rattle.exact.specs.Exact.{Outcome, Promised, Fit}

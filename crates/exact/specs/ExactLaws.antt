@@ -6,7 +6,7 @@ use mathlib.Core.Bool.{Bool, true, false, cond}
 use mathlib.Core.List.{[], _++_}
 use Prim.Native.Nat.{ℕ, _+_, _*_, _<_}
 use native.Mathlib.Omega.{arith}
-use borrow.Author.Tests.{le-ltb, le-leb, eq-eqb, ne-eqb, eqb-true, eqb-false}
+use borrow.Author.Tests.{eq-eqb, ne-eqb, eqb-true, eqb-false}
 use lib.Dec.{eqb}
 use lib.ListN.{length, length-replicate}
 use Rattle.grid.specs.Real.{Vec, at, zero64, zeros}
@@ -18,8 +18,7 @@ use Rattle.leaves.specs.declared.Bad.the-variants.{At, Nowhere}
 use Rattle.answers.specs.Answers.{answered, done, passed, marked}
 use Rattle.answers.specs.Index.{Class}
 use Rattle.answers.specs.declared.Answer.{Answer}
-use Rattle.checks.specs.Checks.{limitGood, lengths}
-use Rattle.checks.specs.EditionLaws.{right-edition, edition-lengths}
+use Rattle.checks.specs.EditionLaws.{right-edition}
 use Rattle.tred.specs.Sizes.{tred2-square, tred2-diagonal, tred2-beside}
 use Rattle.sort.specs.Sort.{sorted}
 use Rattle.ql.specs.Ql.{tql2}
@@ -30,20 +29,18 @@ use Rattle.told.specs.ToldLaws.{first-class, class-above, none-first, one-first
 use Rattle.told.specs.Marks.{told}
 use Rattle.aftertred.specs.AfterTred.{mark0, afterTred}
 use Rattle.eigen.specs.Eigen.{decomposed, cleared, given, entered, eigen}
+use Rattle.eigen.specs.Lent.{checks-pass}
 use Rattle.layout.specs.Layout.{rows}
 use Rattle.exact.specs.Exact.{Outcome, Fit, Taken, reduced, list0, Reduced, Reached, Done, empty, worked, Halted, Broken0, Broken2, Says, nothing, at-mark0, runs, finishedWith, Some}
 use Rattle.exact.specs.Document as Doc
 use Rattle.exact.specs.DocumentLaws.{same-vectors}
-use Rattle.exact.specs.Copies.{columns-long}
+use Rattle.layout.specs.Copies.{columns-long}
 use Rattle.exact.specs.Mirror.{rows-long, rows-entry}
 
 -- ---- the checks
 
 pub enters : (n limit edition : ℕ) (a work result : Vec) → Fit n limit edition a work result → eigen n limit edition a work result ≡ entered n limit edition a
-unfolding eigen limitGood lengths
-enters n limit edition a work result f =
-    rw (edition-lengths edition (length a) (n * n) (length work) n (length result) (n + n * n) (right-edition edition (f .choice)))
-    (simp (le-ltb 256 n (f .small), le-leb 1 limit (f .least), le-leb limit 60 (f .most), eq-eqb (length a) (n * n) (f .square), eq-eqb (length work) n (f .works), eq-eqb (length result) (n + n * n) (f .room)))
+enters n limit edition a work result f = checks-pass n limit edition a work result (f .small) (f .least) (f .most) (right-edition edition (f .choice)) (f .square) (f .works) (f .room)
 
 -- ---- the outcome, told
 

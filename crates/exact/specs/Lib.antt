@@ -1,5 +1,4 @@
 -- `symmetric_eigen` beside document 000, and where each of its numbers is given.
-pub mod Copies
 pub mod Mirror
 pub mod Document
 pub mod DocumentLaws

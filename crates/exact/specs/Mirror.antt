@@ -11,7 +11,7 @@ use Rattle.grid.specs.Real.{Vec}
 use Rattle.grid.specs.Cell.{at2, put2, entry}
 use Rattle.grid.specs.CellLaws.{put-here, put-elsewhere}
 use Rattle.layout.specs.Layout.{mirrorStep, mirrorRow, rows}
-use Rattle.exact.specs.Copies.{Past, above, beside}
+use Rattle.layout.specs.Copies.{Past, above, beside}
 
 module _ (n : ℕ) (v : Vec) where
   -- the cells below the diagonal that are past have changed places with their mirrors, and the others have not

@@ -1,9 +1,7 @@
 // The leading eigenpairs of a symmetric matrix by one Lanczos run from a given start vector: the call.
 ghost use mathlib.Core.Path.{_≡_};
-ghost use mathlib.Core.List.{_++_};
-ghost use Prim.Native.Nat.{_+_, _*_, _≤_};
+ghost use Prim.Native.Nat.{_+_, _*_};
 ghost use lib.ListN.{length};
-ghost use Rattle.leaves.specs.Scan.{firstBad};
 ghost use Rattle.lanczoschecks.specs.Fits.{Called, Fit};
 ghost use Rattle.lanczoschecks.specs.Checks.{workLength};
 ghost use Rattle.lanczos.specs.Lanczos.{entered, lanczos};
@@ -12,22 +10,7 @@ use answers::refusal7;
 use grid::fill;
 use lanczoschecks::checks;
 use lanczosrun::run;
-use leaves::Bad;
-use leaves::is_bad;
-use scan::behind;
-use scan::first_bad;
-
-// The first number that is not finite in the matrix, or else in the start vector, counted on behind the matrix.
-fn scan(a: &[f64], b: &[f64]) -> Bad
-    requires { ⌜ (length (now a) ≤ 65536) × (length (now b) ≤ 256) ⌝ }
-    ensures { λ r. ⌜ r ≡ firstBad (now (a .entry) ++ now (b .entry)) ⌝ }
-{
-    let first = first_bad(a);
-    if is_bad(first) {
-        return first;
-    }
-    behind(a.len(), first_bad(b))
-}
+use scan::first_bad_of_both;
 
 // The call after its checks of sizes, limit, edition and lengths.
 fn enter(
@@ -45,7 +28,7 @@ fn enter(
 {
     fill(work);
     fill(x);
-    let bad = refusal7(scan(a, b));
+    let bad = refusal7(first_bad_of_both(a, b));
     if bad.answer != 0 {
         return bad;
     }

@@ -1,2 +1,3 @@
--- Layout: how the matrix comes in and how the vectors go out.
+-- Layout: how the matrix comes in and how the vectors go out. Copies: laws.
 pub mod Layout
+pub mod Copies

@@ -7,10 +7,8 @@ ghost use Rattle.pass.specs.Pass.{mark1, settled, judged, verdict, pass}
 use grid::EPSILON;
 use grid::at1;
 use leaves::Bad;
-use leaves::is_bad;
 use leaves::magnitude;
-use scan::behind;
-use scan::first_bad;
+use scan::first_bad_of_both;
 use transform::transform;
 
 // A run of `tql2` at l. stop is 0 while passes are to be run at l, 1 where l has settled, 8 or 10 where a number is not
@@ -37,11 +35,7 @@ pub struct Reason {
 pub fn mark1(d: &[f64], e: &[f64]) -> Bad
     ensures { λ r. ⌜ r ≡ mark1 (now (d .entry)) (now (e .entry)) ⌝ }
 {
-    let b = first_bad(d);
-    if is_bad(b) {
-        return b;
-    }
-    behind(d.len(), first_bad(e))
+    first_bad_of_both(d, e)
 }
 
 // Document 000's convergence test: 1 where l has settled, else 0.

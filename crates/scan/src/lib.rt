@@ -1,5 +1,6 @@
 // The first number that is not finite, of a list, of a matrix, or on and below its diagonal.
 ghost use mathlib.Core.Path.{_≡_};
+ghost use mathlib.Core.List.{_++_};
 ghost use Prim.Native.Nat.{_+_, _*_, _^_, _≤_, _<_};
 ghost use lib.ListN.{length};
 ghost use Rattle.leaves.specs.Finite.{allFinite};
@@ -9,6 +10,7 @@ use grid::at1;
 use leaves::Bad;
 use leaves::Place;
 use leaves::class_of;
+use leaves::is_bad;
 use leaves::is_finite;
 
 // What was found, counted behind so many other numbers.
@@ -54,6 +56,17 @@ pub fn first_bad(d: &[f64]) -> Bad
         return Bad::Nowhere;
     }
     walk(d)
+}
+
+// The first number that is not finite of d, or else of e, counted on behind those of d.
+pub fn first_bad_of_both(d: &[f64], e: &[f64]) -> Bad
+    ensures { λ r. ⌜ r ≡ firstBad (now (d .entry) ++ now (e .entry)) ⌝ }
+{
+    let b = first_bad(d);
+    if is_bad(b) {
+        return b;
+    }
+    behind(d.len(), first_bad(e))
 }
 
 // The place after p, row by row, where n are in a row.

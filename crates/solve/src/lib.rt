@@ -2,7 +2,7 @@
 // `Svd::solve` and `Svd::pseudo_inverse`).
 ghost use mathlib.Core.Path.{_≡_};
 ghost use mathlib.Core.List.{_++_};
-ghost use Prim.Native.Nat.{_+_, _*_, _^_, _≤_};
+ghost use Prim.Native.Nat.{_*_};
 ghost use lib.ListN.{length};
 ghost use Rattle.answers.specs.Answers.{done, unlessBad};
 ghost use Rattle.leaves.specs.Scan.{firstBad};
@@ -21,10 +21,9 @@ use answers::refused;
 use checks::fitting;
 use grid::LARGEST;
 use inverse::inverted;
-use leaves::Bad;
 use leaves::is_bad;
-use scan::behind;
 use scan::first_bad;
+use scan::first_bad_of_both;
 use solution::solution;
 
 // Refusals 1, 3 and 4.
@@ -110,22 +109,11 @@ fn solve_looked(m: usize, n: usize, tolerance: f64, d: &[f64], b: &[f64], x: &mu
 }
 
 // The decomposition is scanned, then the right side, its indices behind those of the decomposition.
-fn either_bad(d: &[f64], b: &[f64]) -> Bad
-    requires { ⌜ length (now d) + length (now b) ≤ 2 ^ 64 ⌝ }
-    ensures { λ r. ⌜ r ≡ firstBad (now (d .entry) ++ now (b .entry)) ⌝ }
-{
-    let bad = first_bad(d);
-    if is_bad(bad) {
-        return bad;
-    }
-    behind(d.len(), first_bad(b))
-}
-
 fn solve_scanned(m: usize, n: usize, tolerance: f64, d: &[f64], b: &[f64], x: &mut [f64]) -> Answer
     requires { ⌜ Sized m n (length (now d)) × (length (now b) ≡ m) × (length (now x) ≡ n) ⌝ }
     ensures { λ r. ⌜ (r, now (x .exit)) ≡ unlessBad (firstBad (now (d .entry) ++ now (b .entry))) (now (x .entry)) (looked (solution m n tolerance (now (d .entry)) (now (b .entry)))) ⌝ }
 {
-    let bad = refusal7(either_bad(d, b));
+    let bad = refusal7(first_bad_of_both(d, b));
     if bad.answer != 0 {
         return refuse(bad, x);
     }

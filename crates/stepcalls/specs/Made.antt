@@ -40,7 +40,7 @@ use Rattle.aftertred.specs.AfterTred.{mark0, afterTred}
 use Rattle.eigen.specs.Eigen.{decomposed, cleared, given, eigen}
 use Rattle.layout.specs.Layout as Layout
 use Rattle.eigen.specs.Eigen as Eigen
-use Rattle.exact.specs.Copies.{columns-long}
+use Rattle.layout.specs.Copies.{columns-long}
 use Rattle.machine.specs.Machine.{step}
 use Rattle.runchecks.specs.Checks.{checked}
 use Rattle.runchecks.specs.CheckLaws.{Open}

@@ -20,14 +20,12 @@ use Rattle.leaves.specs.FiniteLaws.{none-lower}
 use Rattle.answers.specs.Answers.{passed}
 use Rattle.answers.specs.declared.Answer.{Answer}
 use Rattle.checks.specs.Checks.{editionGood}
-use Rattle.checks.specs.EditionLaws.{edition-right}
 use Rattle.tred.specs.Tred.{tred2}
 use Rattle.layout.specs.Layout.{columns, rows}
 use Rattle.aftertred.specs.AfterTred.{afterTred}
 use Rattle.eigen.specs.Eigen.{decomposed, cleared, given, entered, eigen}
-use Rattle.eigen.specs.Lent.{outward}
-use Rattle.exact.specs.Copies.{columns-cell, columns-long}
-use Rattle.exact.specs.ExactLaws.{enters}
+use Rattle.eigen.specs.Lent.{outward, checks-pass}
+use Rattle.layout.specs.Copies.{columns-cell, columns-long}
 use Rattle.tri.specs.Tri.{triStep, tri}
 use Rattle.tridiagonal.specs.Tridiagonal.{inward}
 
@@ -186,12 +184,5 @@ module _ (m limit edition : ℕ) (some : 0 < m) (few : m ≤ 256) (lo : 1 ≤ li
   unfolding inward
   inward-is al be fine =
       let h = own-tri m al be fine in
-      enters m limit edition (tri m al be (zeros (m * m))) (zeros m) (zeros (m + m * m)) (record {
-        small = few;
-        least = lo;
-        most = hi;
-        choice = edition-right edition good;
-        square = h .long;
-        works = length-replicate m zero64;
-        room = length-replicate (m + m * m) zero64;
-      }) ∙ in-place (tri m al be (zeros (m * m))) h
+      checks-pass m limit edition (tri m al be (zeros (m * m))) (zeros m) (zeros (m + m * m)) few lo hi good (h .long) (length-replicate m zero64) (length-replicate (m + m * m) zero64)
+      ∙ in-place (tri m al be (zeros (m * m))) h

@@ -1,15 +1,12 @@
 -- Generated from the answers file beside it by tools/prove/prove.py: edit that.
 -- `solve::solve_scanned` meets its contract.
-use mathlib.Core.Path.{refl}
-use native.Mathlib.Omega.{arith}
 use borrow.Author.Needs.{needs}
 use borrow.Author.Tests.{eq-eqb, ne-eqb}
-use Rattle.solution.specs.SolutionLaws.{split}
 use Rattle.solve.proofs.solve_scanned.Statement.{statement}
 use Rattle.solve.proofs.solve_scanned.Tie as tie
 
-either-bad-requires : tie.Need-either-bad-requires
-either-bad-requires c κs = omega (arith, split _ _ _ _ (c .before .before .before .pre .0) refl .small, split _ _ _ _ (c .before .before .before .pre .0) refl .u-small, split _ _ _ _ (c .before .before .before .pre .0) refl .vt-small, split _ _ _ _ (c .before .before .before .pre .0) refl .all, c .before .before .before .pre .0 .few, c .before .before .before .pre .1)
+first-bad-of-both-requires : tie.Need-first-bad-of-both-requires
+first-bad-of-both-requires c κs = search needs
 
 refusal7-requires : tie.Need-refusal7-requires
 refusal7-requires c κs = search needs
@@ -21,7 +18,7 @@ same-length : tie.Need-same-length
 same-length c = search needs
 
 returns : tie.Need-returns
-returns c = rw (← c .before .before .before .before .before .before .before .either-bad .ensures, ← c .before .before .before .before .before .before .refusal7 .ensures, ne-eqb _ _ (c .before .before .before .before .if1 .taken)) (c .before .before .refuse .ensures)
+returns c = rw (← c .before .before .before .before .before .before .before .first-bad-of-both .ensures, ← c .before .before .before .before .before .before .refusal7 .ensures, ne-eqb _ _ (c .before .before .before .before .if1 .taken)) (c .before .before .refuse .ensures)
 
 solve-looked-requires : tie.Need-solve-looked-requires
 solve-looked-requires c κs = search needs
@@ -30,13 +27,13 @@ same-length-2 : tie.Need-same-length-2
 same-length-2 c = search needs
 
 returns-2 : tie.Need-returns-2
-returns-2 c = rw (← c .before .before .before .before .before .before .before .either-bad .ensures, ← c .before .before .before .before .before .before .refusal7 .ensures, eq-eqb _ _ (c .before .before .before .before .if1 .left)) (c .before .before .solve-looked .ensures)
+returns-2 c = rw (← c .before .before .before .before .before .before .before .first-bad-of-both .ensures, ← c .before .before .before .before .before .before .refusal7 .ensures, eq-eqb _ _ (c .before .before .before .before .if1 .left)) (c .before .before .solve-looked .ensures)
 
 pub solve-scanned-spec : {M : Type 1} → statement M
 solve-scanned-spec =
     tie.close
     (tie.spec
-    either-bad-requires
+    first-bad-of-both-requires
     refusal7-requires
     refuse-requires
     same-length
