@@ -50,8 +50,7 @@ oracle-check: $(ORACLE)/oracle
 	$(ORACLE)/oracle blocks-wanted | cmp - crates/blocks/stdout
 	$(ORACLE)/oracle lanczos-check $(SEED) $(CASES)
 	$(ORACLE)/oracle lanczos-check $(SEED) 2000 40
-	$(ORACLE)/oracle lanczos | cmp - crates/lanczosruns/stdin
-	$(ORACLE)/oracle lanczos-agreed | cmp - crates/lanczosruns/stdout
+	$(ORACLE)/oracle lanczos | cmp - tests/vectors/lanczos.list
 
 # The committed list and the C tests each find every wrong version of a table of them.
 oracle-mutants: has-rustc
@@ -68,8 +67,7 @@ cases: $(ORACLE)/oracle
 	$(ORACLE)/oracle agreed >crates/replay/stdout
 	$(ORACLE)/oracle blocks >crates/blocks/stdin
 	$(ORACLE)/oracle blocks-wanted >crates/blocks/stdout
-	$(ORACLE)/oracle lanczos >crates/lanczosruns/stdin
-	$(ORACLE)/oracle lanczos-agreed >crates/lanczosruns/stdout
+	$(ORACLE)/oracle lanczos >tests/vectors/lanczos.list
 
 # The patched functions behind the C entries, for trying a test or a driver: one object, no other name visible.
 $(ORACLE)/libcrewelmarsh_oracle.a: oracle/src/entries.rs oracle/src/block.rs oracle/src/store.rs oracle/src/tally.rs oracle/src/patched.rs oracle/src/steps.rs oracle/src/lanczos.rs oracle/src/hypot.rs | has-rustc
@@ -82,24 +80,11 @@ $(ORACLE)/libcrewelmarsh_oracle.a: oracle/src/entries.rs oracle/src/block.rs ora
 
 oracle-standin: $(ORACLE)/libcrewelmarsh_oracle.a
 
-# Programs over the archive are x86-64. Elsewhere they are built with the kit's own tools and run under its emulator.
-ifeq ($(shell uname -m),x86_64)
-$(ORACLE)/runner: oracle/runner.c $(ARCHIVE)
-	$(CC) -std=c99 -Wall -Wextra -O2 -ffp-contract=off $^ -o $@
-RUN_RUNNER = $(ORACLE)/runner
-else
-KIT = $(shell dirname "$$(dirname "$$(rt doc)")")
-KIT_OWN = $(KIT)/on/$(shell uname -m)
-KIT_TOOLS = $(KIT_OWN)/toolchain
-$(ORACLE)/runner: oracle/runner.c $(ARCHIVE)
-	$(KIT_TOOLS)/bin/clang --target=x86_64-unknown-linux-gnu -march=x86-64 --no-default-config -nostdinc -std=c11 -O2 \
-	  -ffp-contract=off -fPIC -c $< -o $@.o
-	$(KIT_OWN)/bin/rattle-link --target x86_64-unknown-linux-gnu --toolchain $(KIT_TOOLS) -o $@ $@.o $(ARCHIVE)
-RUN_RUNNER = $(KIT_TOOLS)/bin/qemu-x86_64 $(KIT_TOOLS)/lib/ld-linux-x86-64.so.2 --library-path $(KIT_TOOLS)/lib $(ORACLE)/runner
-endif
+# The committed lists and fresh cases through the archive's C entries, and pairs through hypot of edition 2. Programs over the archive are built and run as the C
+# tests are (tools/c.mk).
+RUN_RUNNER = $(RUN) build/tests/runner
 
-# The committed list and fresh cases through the archive's C entries, and pairs through hypot of edition 2.
-compare: $(ORACLE)/oracle $(ORACLE)/runner compare-hypot
+compare: $(ORACLE)/oracle build/tests/runner compare-hypot
 	$(ORACLE)/oracle list | $(RUN_RUNNER)
 	$(ORACLE)/oracle fresh $(SEED) $(CASES) $(LARGEST) | $(RUN_RUNNER)
 	$(ORACLE)/oracle lanczos | $(RUN_RUNNER)
@@ -228,19 +213,11 @@ bench-root: $(ORACLE)/root
 # The covariance through the archive against 128-bit integers, on planes chosen by hand and random ones; no rustc.
 COVARIANCE_CASES ?= 3000
 
-ifeq ($(shell uname -m),x86_64)
 $(ORACLE)/covariance: oracle/covariance.c $(ARCHIVE)
 	@mkdir -p $(ORACLE)
-	$(CC) -std=c99 -Wall -Wextra -O2 $^ -o $@
-RUN_COVARIANCE = $(ORACLE)/covariance
-else
-$(ORACLE)/covariance: oracle/covariance.c $(ARCHIVE)
-	@mkdir -p $(ORACLE)
-	$(KIT_TOOLS)/bin/clang --target=x86_64-unknown-linux-gnu -march=x86-64 --no-default-config -nostdinc -std=c11 -O2 -fPIC -c $< -o $@.o
-	$(KIT_OWN)/bin/rattle-link --target x86_64-unknown-linux-gnu --toolchain $(KIT_TOOLS) -o $@ $@.o $(ARCHIVE)
-RUN_COVARIANCE = $(KIT_TOOLS)/bin/qemu-x86_64 $(KIT_TOOLS)/lib/ld-linux-x86-64.so.2 --library-path $(KIT_TOOLS)/lib $(ORACLE)/covariance
-endif
+	$(CLANG) $(TARGET_FLAGS) -Wall -Wextra -std=c11 -c $< -o $@.o
+	$(LINK) -o $@ $@.o $(ARCHIVE)
 
 .PHONY: compare-covariance bench-covariance bench-store
 compare-covariance: $(ORACLE)/covariance
-	$(RUN_COVARIANCE) $(SEED) $(COVARIANCE_CASES)
+	$(RUN) $< $(SEED) $(COVARIANCE_CASES)

@@ -1,4 +1,4 @@
-/* The store of two owners, held to two plain maps in C: sequences of random calls by both, each refusal, damaged lists; guard words throughout. */
+/* The store of two owners, held to two plain maps in C: sequences of random calls by both, each refusal, damaged lists; guard words throughout. A short run by hand. */
 #include <string.h>
 #include "boundary.h"
 
@@ -579,8 +579,45 @@ static void whole_room(size_t owner)
           "an empty block behind it");
 }
 
+static struct crewelmarsh_answer put_text(size_t owner, uint16_t tile, const char *text, size_t length)
+{
+    memcpy(block, text, length);
+    return put(owner, tile, length);
+}
+
+/* A run by hand, with no map beside it: the buffer is in view, the bytes of a dropped block and of a reset too. */
+static void by_hand(void)
+{
+    size_t k;
+    tell(10);
+    for (k = 0; k < LIST; k++)
+        list[k] = 9;
+    memset(tiles, 0, TILES * sizeof tiles[0]);
+    memset(bytes, '.', 10);
+    memset(out, '-', 2);
+    check(is(setup(6, 5), 35, 0), "by hand: 6 and 5 of 10 bytes");
+    check(is(setup(6, 4), 0, 0), "by hand: 6 and 4");
+    check(is(put_text(1, 7, "vwxyz", 5), 30, 0), "by hand: more than owner 1 has");
+    check(is(put_text(1, 7, "xy", 2), 0, 0), "by hand: less");
+    check(is(put_text(0, 7, "abcde", 5), 0, 0), "by hand: the same tile number of owner 0");
+    check(is(put_text(2, 7, "", 0), 34, 0), "by hand: nobody's");
+    check(is(length_of(0, 7), 0, 5), "by hand: the length of owner 0's");
+    check(is(length_of(1, 7), 0, 2), "by hand: the length of owner 1's");
+    check(memcmp(bytes, "abcde.xy..", 10) == 0, "by hand: both blocks in the buffer");
+    check(is(put_text(0, 8, "f", 1), 0, 0), "by hand: another tile of owner 0");
+    check(is(drop(0, 7), 0, 0), "by hand: its first one gone");
+    check(is(fetch(0, 8, 2), 6, 0), "by hand: a destination too long");
+    check(is(fetch(1, 7, 2), 0, 0), "by hand: owner 1's block");
+    check(memcmp(out, "xy", 2) == 0, "by hand: its bytes");
+    check(is(reset(), 0, 0), "by hand: a reset");
+    check(is(length_of(0, 7), 32, 0), "by hand: nothing of owner 0");
+    check(is(length_of(1, 7), 32, 0), "by hand: nothing of owner 1");
+    check(memcmp(bytes, "fbcdefxy..", 10) == 0, "by hand: the second block in the first one's place, and nothing cleared");
+}
+
 void test_store(void)
 {
+    by_hand();
     set_ups();
     limits(0);
     limits(1);

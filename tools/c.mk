@@ -5,7 +5,7 @@
 #   make example       builds and runs examples/codec.c, examples/decoder.c and examples/components.c
 #   make example-test  the same, and what each writes is held to examples/NAME.expected
 #   make parts         the archive, and beside it what the C tests and the examples are linked from
-#   make boundary      the test of the C boundary: header, names, every entry and answer
+#   make boundary      the test of the C boundary: header, names, every entry and answer, the oracle's list of lanczos
 #
 # ARCHIVE=PATH tests another archive with the same entries.
 
@@ -20,8 +20,10 @@ LINK = $(OWN)/bin/rattle-link --target x86_64-unknown-linux-gnu --toolchain $(TO
 RUN = $(EMULATOR) $(LIBRARY)/ld-linux-x86-64.so.2 --library-path $(LIBRARY)
 
 # rt staticlib proves its crate anew at each call, and what the crate uses only where that has changed since it was last proved. So it is
-# asked only where a file has changed.
+# asked only where a file has changed. It proves one crate after another, rt check several at a time: what the crate uses is left to that, where rt ci has not
+# proved it.
 CRATE_FILES := $(shell find crates -name must-fail -prune -o -type f -print)
+ARCHIVE_USES = $(shell sed -n 's/^crewelmarsh: *//p' crates.txt)
 ARCHIVE ?= dist/libcrewelmarsh.a
 
 # The version and the entries' names in the archive, as the header has them.
@@ -31,9 +33,12 @@ VERSION := $(MAJOR).$(call said,MINOR).$(call said,PATCH)
 ENTRIES := $(shell sed -n 's/^.define \(crewelmarsh_[a-z_]*\) CREWELMARSH_NAME.*/\1_abi$(MAJOR)/p' include/crewelmarsh.h)
 
 # How many checks the boundary's test makes.
-BOUNDARY_CHECKS := 170740
+BOUNDARY_CHECKS := 170758
 BOUNDARY_PARTS := boundary check eigen svd row solve qr marks sizes numbers block covariance store steps tally lanczos header header_cpp
 BOUNDARY_OBJECTS := $(BOUNDARY_PARTS:%=build/tests/%.o)
+
+# How many cases the oracle's list of lanczos has, which its runner (oracle/runner.c) puts through the archive.
+LIST_CASES := 608
 
 TARGET_FLAGS := --target=x86_64-unknown-linux-gnu -march=x86-64 --no-default-config \
     -nostdinc -isystem tools/headers -Iinclude -O2 -ffp-contract=off -fPIC
@@ -42,11 +47,12 @@ C99 = $(CLANG) $(TARGET_FLAGS) $(WARNINGS) -std=c99
 CPLUSPLUS = $(CLANG) $(TARGET_FLAGS) $(WARNINGS) -x c++ -std=c++98
 HEADERS := include/crewelmarsh.h $(wildcard tools/headers/*.h)
 
-.PHONY: archive parts example example-test boundary boundary-names boundary-header boundary-run FORCE
+.PHONY: archive parts example example-test boundary boundary-names boundary-header boundary-run boundary-list FORCE
 
 archive: dist/libcrewelmarsh.a dist/crewelmarsh.h
 
 dist/libcrewelmarsh.a: crates.txt $(CRATE_FILES) | kit
+	@[ -e target/stamp/crewelmarsh ] || $(RT) check $(ARCHIVE_USES)
 	$(RT) staticlib crewelmarsh
 	@mkdir -p dist
 	cp target/staticlib/libcrewelmarsh.a $@
@@ -57,7 +63,7 @@ dist/crewelmarsh.h: include/crewelmarsh.h
 
 EXAMPLES := codec decoder components
 
-parts: archive $(BOUNDARY_OBJECTS) $(EXAMPLES:%=build/examples/%.o)
+parts: archive $(BOUNDARY_OBJECTS) build/tests/runner.o $(EXAMPLES:%=build/examples/%.o)
 
 example: $(EXAMPLES:%=build/examples/%)
 	@for name in $(EXAMPLES); do $(RUN) build/examples/$$name || exit 1; done
@@ -76,7 +82,7 @@ build/examples/%.o: examples/%.c $(HEADERS)
 	@mkdir -p $(@D)
 	@$(C99) -c $< -o $@
 
-boundary: boundary-names boundary-header boundary-run
+boundary: boundary-names boundary-header boundary-run boundary-list
 
 boundary-names: $(ARCHIVE)
 	@sh tests/exports.sh $(ARCHIVE) $(ENTRIES)
@@ -96,9 +102,23 @@ boundary-run: build/tests/boundary
 	@tail -n 1 build/tests/boundary.out | grep -qx 'boundary: $(BOUNDARY_CHECKS) checks, 0 failed' || \
 	    { echo 'boundary: $(BOUNDARY_CHECKS) checks were expected'; exit 1; }
 
+# Here too: a list that lost cases is not the list.
+boundary-list: build/tests/runner tests/vectors/lanczos.list
+	@if ! $(RUN) $< <tests/vectors/lanczos.list >build/tests/runner.out; then cat build/tests/runner.out; exit 1; fi
+	@tail -n 1 build/tests/runner.out | sed 's/^/list of lanczos: /'
+	@tail -n 1 build/tests/runner.out | grep -qx '$(LIST_CASES) cases, 0 differ' || \
+	    { echo 'list of lanczos: $(LIST_CASES) cases were expected'; exit 1; }
+
 # Linked anew each time, whichever archive is asked for.
 build/tests/boundary: $(BOUNDARY_OBJECTS) $(ARCHIVE) FORCE
 	@$(LINK) -o $@ $(filter-out FORCE,$^) 2>$@.log || { cat $@.log; exit 1; }
+
+build/tests/runner: build/tests/runner.o $(ARCHIVE) FORCE
+	@$(LINK) -o $@ $(filter-out FORCE,$^) 2>$@.log || { cat $@.log; exit 1; }
+
+build/tests/runner.o: oracle/runner.c
+	@mkdir -p $(@D)
+	@$(C99) -c $< -o $@
 
 build/tests/%.o: tests/%.c tests/boundary.h $(HEADERS)
 	@mkdir -p $(@D)

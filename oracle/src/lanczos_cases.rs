@@ -1,4 +1,4 @@
-//! Cases of `lanczos`: those chosen by hand, random ones, the committed list of `crates/lanczosruns`, and two checks: against document 000's
+//! Cases of `lanczos`: those chosen by hand, random ones, the committed list `tests/vectors/lanczos.list`, and two checks: against document 000's
 //! own text, and against `symmetric_eigen` on covariances.
 
 use crate::cases::*;
@@ -205,12 +205,6 @@ pub fn list(out: &mut impl Write) -> io::Result<()> {
         case.write(out, SHOWN)?;
     }
     out.write_all(&0u64.to_le_bytes())
-}
-
-/// What a replay of the list writes where all agree.
-pub fn agreed(out: &mut impl Write) -> io::Result<()> {
-    let count = listed().len();
-    writeln!(out, "lanczos: {count} of {count}")
 }
 
 pub fn fresh(out: &mut impl Write, seed: u64, cases: usize, largest: u64) -> io::Result<()> {

@@ -1,5 +1,5 @@
 //! The oracle's commands: `list`, `agreed`, `blocks`, `blocks-wanted`, `fresh SEED CASES LARGEST`,
-//! `check SEED CASES LARGEST`, `lanczos`, `lanczos-agreed`, `lanczos-fresh` and `lanczos-check` the same for lanczos, `findings`, `hypots SEED PAIRS`, `hypots-wanted SEED PAIRS`, `hypots-platform SEED PAIRS`.
+//! `check SEED CASES LARGEST`, `lanczos`, `lanczos-fresh` and `lanczos-check` the same for lanczos, `findings`, `hypots SEED PAIRS`, `hypots-wanted SEED PAIRS`, `hypots-platform SEED PAIRS`.
 
 use oracle::cases::*;
 use oracle::{blocks, findings, lanczos_cases, pairs, plain, special, steps};
@@ -155,7 +155,6 @@ fn main() -> io::Result<()> {
             return Ok(());
         }
         Some("lanczos") => lanczos_cases::list(&mut out)?,
-        Some("lanczos-agreed") => lanczos_cases::agreed(&mut out)?,
         Some("lanczos-fresh") => lanczos_cases::fresh(&mut out, number(1, 1), number(2, 100_000) as usize, number(3, 12))?,
         Some("lanczos-check") => {
             drop(out);
@@ -171,7 +170,7 @@ fn main() -> io::Result<()> {
             let count = number(2, 2_000_000) as usize;
             writeln!(out, "{} of {count} pairs have other bits under the platform's hypot than under edition 2", pairs::platform(number(1, 1), count))?;
         }
-        _ => eprintln!("oracle list | oracle agreed | oracle blocks | oracle blocks-wanted | oracle lanczos | oracle lanczos-agreed | oracle lanczos-fresh SEED CASES LARGEST | oracle lanczos-check SEED CASES LARGEST | oracle findings | oracle hypots SEED PAIRS | oracle hypots-wanted SEED PAIRS | oracle hypots-platform SEED PAIRS | oracle fresh SEED CASES LARGEST | oracle check SEED CASES LARGEST"),
+        _ => eprintln!("oracle list | oracle agreed | oracle blocks | oracle blocks-wanted | oracle lanczos | oracle lanczos-fresh SEED CASES LARGEST | oracle lanczos-check SEED CASES LARGEST | oracle findings | oracle hypots SEED PAIRS | oracle hypots-wanted SEED PAIRS | oracle hypots-platform SEED PAIRS | oracle fresh SEED CASES LARGEST | oracle check SEED CASES LARGEST"),
     }
     out.flush()
 }

@@ -24,17 +24,17 @@ recurred n j alpha q be v w =
     cond (ltb 0 j) (added n (neg (at be (j - 1))) (rowOf n (j - 1) q) x) x
 
 -- how the steps stand, with q, the alphas, the betas and v
-abbrev pub State : Type 0
-State = Went × Vec × Vec × Vec × Vec
+abbrev pub LanczosState : Type 0
+LanczosState = Went × Vec × Vec × Vec × Vec
 
 -- v is the next of q, and alpha its number
-unfoldable pub kept : ℕ → ℕ → Float → Vec → Vec → Vec → Vec → Vec → State
+unfoldable pub kept : ℕ → ℕ → Float → Vec → Vec → Vec → Vec → Vec → LanczosState
 kept n j alpha w q al be v =
     let (r, be′, v′) = stepEnded n j (norm n w) w be v in
     (r, replaced (j * n) (j * n + n) v q, set al j alpha, be′, v′)
 
 -- an alpha that is not finite is refused as soon as it is worked out
-unfoldable pub step : ℕ → Vec → ℕ → Vec → Vec → Vec → Vec → State
+unfoldable pub step : ℕ → Vec → ℕ → Vec → Vec → Vec → Vec → LanczosState
 step n a j q al be v =
     let w = product n a v in
     let alpha = dot n v w in
@@ -45,8 +45,8 @@ step n a j q al be v =
 -- ---- all steps
 
 -- nothing more is done once they have stopped
-unfoldable pub stepIfOn : ℕ → Vec → ℕ → State → State
+unfoldable pub stepIfOn : ℕ → Vec → ℕ → LanczosState → LanczosState
 stepIfOn n a j (r, q, al, be, v) = cond (r .on) (step n a j q al be v) (r, q, al, be, v)
 
-unfoldable pub steps : ℕ → ℕ → Vec → Vec → Vec → Vec → Vec → State
+unfoldable pub steps : ℕ → ℕ → Vec → Vec → Vec → Vec → Vec → LanczosState
 steps n s a q al be v = upto (stepIfOn n a) 0 s (went true (done 0) 0, q, al, be, v)

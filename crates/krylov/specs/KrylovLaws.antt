@@ -15,7 +15,7 @@ use Rattle.gram.specs.Gram.{dot, norm}
 use Rattle.matvec.specs.Matvec.{product}
 use Rattle.stepend.specs.declared.Went.{Went}
 use Rattle.stepend.specs.End.{leastBeta, went, stepEnded}
-use Rattle.krylov.specs.Krylov.{State, kept, step, stepIfOn, steps}
+use Rattle.krylov.specs.Krylov.{LanczosState, kept, step, stepIfOn, steps}
 
 -- ---- a list of so many finite numbers
 
@@ -51,7 +51,7 @@ pub record Both (al be : Vec) : Type 0 where
 pub both-zeros : Both (zeros 256) (zeros 256)
 both-zeros = record { alphas = fine-zeros 256; betas = fine-zeros 256 }
 
-abbrev InState : State → Type 0
+abbrev InState : LanczosState → Type 0
 InState x = Both (x .2) (x .3)
 
 -- what holds of both sides of a test
@@ -83,7 +83,7 @@ kept-dim : (n j : ℕ) (alpha : Float) (w q al be v : Vec) → kept n j alpha w 
 unfolding kept
 kept-dim n j alpha w q al be v = ended-dim n j (norm n w) w be v
 
-record Begun (j : ℕ) (x : State) : Type 0 where
+record Begun (j : ℕ) (x : LanczosState) : Type 0 where
   begun : x .0 .dim ≡ j + 1
   fine : InState x
 
@@ -95,13 +95,13 @@ step-begun n a j q al be v h =
     (λ e. record { begun = refl; fine = h })
 
 -- after j turns
-record Turned (j : ℕ) (x : State) : Type 0 where
+record Turned (j : ℕ) (x : LanczosState) : Type 0 where
   few : x .0 .dim ≤ j
   running : x .0 .on ≡ true → x .0 .dim ≡ j
   stopped : x .0 .on ≡ false → 0 < x .0 .dim
   fine : InState x
 
-step-turned : (n : ℕ) (a : Vec) (j : ℕ) (x : State) → Turned j x → Turned (j + 1) (stepIfOn n a j x)
+step-turned : (n : ℕ) (a : Vec) (j : ℕ) (x : LanczosState) → Turned j x → Turned (j + 1) (stepIfOn n a j x)
 unfolding stepIfOn
 step-turned n a j x h =
     either (Turned (j + 1)) (x .0 .on)

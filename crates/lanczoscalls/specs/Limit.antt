@@ -15,7 +15,7 @@ use Rattle.answers.specs.declared.Answer.{Answer}
 use Rattle.checks.specs.ChecksLaws.{right-limit}
 use Rattle.exact.specs.Limit.{eigen-limit}
 use Rattle.gram.specs.Gram.{norm}
-use Rattle.krylov.specs.Krylov.{State}
+use Rattle.krylov.specs.Krylov.{LanczosState}
 use Rattle.leading.specs.Leading.{selected}
 use Rattle.tri.specs.Tri.{tri}
 use Rattle.tridiagonal.specs.Tridiagonal.{inward}
@@ -47,7 +47,7 @@ module _ (l h : ℕ) (low : 1 ≤ l) (up : l ≤ h) (high : h ≤ 60) where
       let s = eigen-limit m edition l h (tri m al be (zeros (m * m))) (zeros m) (zeros (m + m * m)) low up high in
       record { same = λ d. ap (paired n k m q) (s .same (λ e. d (paired-nine n k m q _ e))) }
 
-  solved-limit : (n k edition : ℕ) (x : State) → Settled answer2 (solved n k l edition x) (solved n k h edition x)
+  solved-limit : (n k edition : ℕ) (x : LanczosState) → Settled answer2 (solved n k l edition x) (solved n k h edition x)
   unfolding solved
   solved-limit n k edition x = by-test answer2 (passed (x .0 .said)) _ refl (paired-limit n k (x .0 .dim) edition (x .1) (x .2) (x .3)) (always answer2)
 

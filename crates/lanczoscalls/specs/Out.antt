@@ -19,7 +19,7 @@ use Rattle.leaves.specs.declared.Bad.the-variants.{At, Nowhere}
 use Rattle.answers.specs.Answers.{answered, passed, refusal7, marked, least}
 use Rattle.answers.specs.declared.Answer.{Answer}
 use Rattle.gram.specs.Gram.{norm}
-use Rattle.krylov.specs.Krylov.{State}
+use Rattle.krylov.specs.Krylov.{LanczosState}
 use Rattle.leading.specs.Leading.{looked, selected}
 use Rattle.lanczosrun.specs.Run.{none, paired, solved, ran}
 use Rattle.lanczoschecks.specs.Checks.{checks}
@@ -62,7 +62,7 @@ paired-good : (n k m : ℕ) (q : Vec) (r : Answer × Vec × Vec) → Good k (pai
 unfolding paired selected
 paired-good n k m q r = unless k (r .0) _ (zeros (k + k * n)) (looked-good k (least k m) (r .0 .count) _ (least-first k m))
 
-solved-good : (n k limit edition : ℕ) (x : State) → Good k (solved n k limit edition x)
+solved-good : (n k limit edition : ℕ) (x : LanczosState) → Good k (solved n k limit edition x)
 unfolding solved
 solved-good n k limit edition x = unless k (x .0 .said) _ (zeros (k + k * n)) (paired-good n k (x .0 .dim) (x .1) _)
 

@@ -10,7 +10,7 @@ use Rattle.grid.specs.Real.{Vec, zeros}
 use Rattle.grid.specs.Table.{part}
 use Rattle.answers.specs.declared.Answer.{Answer}
 use Rattle.stepend.specs.declared.Went.{Went}
-use Rattle.krylov.specs.Krylov.{State, steps}
+use Rattle.krylov.specs.Krylov.{LanczosState, steps}
 use Rattle.krylov.specs.KrylovLaws.{Both, both-zeros, steps-fine, steps-few, steps-some}
 use Rattle.tridiagonal.specs.Tridiagonal.{inward}
 use Rattle.lanczoschecks.specs.Fits.{Room, Small}
@@ -19,15 +19,15 @@ use Rattle.lanczosrun.proofs.Parts.{front-zeros, front-is, part-zeros, 
 
 module _ (n s k limit edition : ℕ) (a v work : Vec) (clean : work ≡ zeros (length work)) (room : Room n s (length work))
     {r : Went} {q al be v′ : Vec}
-    (is : _≡_ {A = State} (r, q, al, be, v′) (steps n s a (take (s * n) work) (zeros 256) (zeros 256) v)) where
+    (is : _≡_ {A = LanczosState} (r, q, al, be, v′) (steps n s a (take (s * n) work) (zeros 256) (zeros 256) v)) where
   fits : s * n ≤ length work
   fits = omega (arith, room .room)
 
-  from-zeros : _≡_ {A = State} (r, q, al, be, v′) (steps n s a (zeros (s * n)) (zeros 256) (zeros 256) v)
+  from-zeros : _≡_ {A = LanczosState} (r, q, al, be, v′) (steps n s a (zeros (s * n)) (zeros 256) (zeros 256) v)
   from-zeros = is ∙ ap (λ (y : Vec). steps n s a y (zeros 256) (zeros 256) v) (front-zeros (s * n) q work clean fits)
 
   few : r .dim ≤ s
-  few = subst (λ (x : State). x .0 .dim ≤ s) (sym is) (steps-few n s a (take (s * n) work) (zeros 256) (zeros 256) v both-zeros)
+  few = subst (λ (x : LanczosState). x .0 .dim ≤ s) (sym is) (steps-few n s a (take (s * n) work) (zeros 256) (zeros 256) v both-zeros)
 
   square : r .dim * r .dim ≤ s * s
   square = mul-le-mul few few
@@ -48,7 +48,7 @@ module _ (n s k limit edition : ℕ) (a v work : Vec) (clean : work ≡ zeros (l
 
   pub go-small : length q ≡ s * n → 0 < s → Small n s (r .dim) (length (q ++ drop (s * n) work))
   go-small l o = record {
-    some = subst (λ (x : State). 0 < x .0 .dim) (sym is) (steps-some n s a (take (s * n) work) (zeros 256) (zeros 256) v both-zeros o);
+    some = subst (λ (x : LanczosState). 0 < x .0 .dim) (sym is) (steps-some n s a (take (s * n) work) (zeros 256) (zeros 256) v both-zeros o);
     few = few;
     steps = room .steps;
     size = room .size;
@@ -59,4 +59,4 @@ module _ (n s k limit edition : ℕ) (a v work : Vec) (clean : work ≡ zeros (l
   go-clean l = part-zeros (s * n) q work clean fits (r .dim * r .dim) l (omega (arith, room .room, square))
 
   pub go-fine : Both al be
-  go-fine = subst (λ (x : State). Both (x .2) (x .3)) (sym is) (steps-fine n s a (take (s * n) work) (zeros 256) (zeros 256) v both-zeros)
+  go-fine = subst (λ (x : LanczosState). Both (x .2) (x .3)) (sym is) (steps-fine n s a (take (s * n) work) (zeros 256) (zeros 256) v both-zeros)

@@ -9,7 +9,7 @@ use Rattle.answers.specs.Answers.{answered, passed}
 use Rattle.answers.specs.declared.Answer.{Answer}
 use Rattle.gram.specs.Gram.{norm}
 use Rattle.startvec.specs.Start.{started}
-use Rattle.krylov.specs.Krylov.{State, steps}
+use Rattle.krylov.specs.Krylov.{LanczosState, steps}
 use Rattle.leading.specs.Leading.{selected}
 use Rattle.tridiagonal.specs.Tridiagonal.{inward}
 use Rattle.lanczoschecks.specs.Checks.{size}
@@ -27,7 +27,7 @@ unfoldable pub paired : ℕ → ℕ → ℕ → Vec → Answer × Vec × Vec →
 paired n k m q (x, work, result) =
     cond (passed x) (selected n k m (x .count) q (take m result) (drop m result) (zeros (k + k * n))) (none n k x)
 
-unfoldable pub solved : ℕ → ℕ → ℕ → ℕ → State → Outcome
+unfoldable pub solved : ℕ → ℕ → ℕ → ℕ → LanczosState → Outcome
 solved n k limit edition (r, q, al, be, v) =
     cond (passed (r .said)) (paired n k (r .dim) q (inward (r .dim) limit edition al be)) (none n k (r .said))
 

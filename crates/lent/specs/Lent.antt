@@ -10,7 +10,7 @@ use Rattle.leaves.specs.declared.Bad.{Bad}
 use Rattle.answers.specs.declared.Answer.{Answer}
 use Rattle.pass.specs.declared.Run.{Run}
 use Rattle.turnends.specs.TurnEnds.{State}
-use Rattle.qlend.specs.QlEnd.{finished}
+use Rattle.qlend.specs.QlEnd.{qlFinished}
 use Rattle.eigen.specs.Eigen.{given}
 use Rattle.ready.specs.Readied.{readied}
 
@@ -34,4 +34,4 @@ laidOut (r, v, d, e) = (r, e, d ++ v)
 
 -- mark 2 and the sort, or what mark 1 or the limit answers, and the arrays as 01 has them
 unfoldable pub closedUp : ℕ → Run → Vec → Vec → Answer × Vec × Vec
-closedUp n r work result = given n (finished n (stateOf n r work result))
+closedUp n r work result = given n (qlFinished n (stateOf n r work result))

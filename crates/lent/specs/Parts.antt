@@ -14,7 +14,7 @@ use Rattle.leaves.specs.declared.Bad.{Bad}
 use Rattle.answers.specs.declared.Answer.{Answer}
 use Rattle.pass.specs.declared.Run.{Run}
 use Rattle.turnends.specs.TurnEnds.{State}
-use Rattle.qlend.specs.QlEnd as QlEnd
+use Rattle.qlend.specs.QlEnd.{qlFinished}
 use Rattle.handed.specs.Laid.{laid}
 use Rattle.eigen.specs.Lent.{outward, behind, behind-put, put-together, zeros-drop}
 use Rattle.machine.specs.Machine.{step}
@@ -31,7 +31,7 @@ stood r x = record { run = r; answer = x }
 
 -- of (run, v, d, e), to (answer, v, d, e), the vectors row by row where that is done
 unfoldable pub turnedOut : ℕ → State → Answer × Vec × Vec × Vec
-turnedOut n x = outward n (QlEnd.finished n x)
+turnedOut n x = outward n (qlFinished n x)
 
 -- work and result, whose back holds v, after a start with d: where mark 0 saw something all is filled
 unfoldable pub setOut : Bad → Vec → Vec → Vec → Bad × Vec × Vec
@@ -87,5 +87,5 @@ module _ (n : ℕ) (R W D v d : Vec) (room : length R ≡ n + n * n) (lv : lengt
       → q ≡ laid x d W (putMid n (length R - n) R v) → q ≡ closedUp n r W R
   unfolding closedUp turnedOut
   closed-whole r x q c lw s g =
-      g ∙ put-together n (QlEnd.finished n (stateOf n r W R)) x v d W W (putMid n (length R - n) R v) ld lw whole-long back
-      (s W ∙ (λ i. outward n (QlEnd.finished n (r, behind n R fits-behind i, c i, W))))
+      g ∙ put-together n (qlFinished n (stateOf n r W R)) x v d W W (putMid n (length R - n) R v) ld lw whole-long back
+      (s W ∙ (λ i. outward n (qlFinished n (r, behind n R fits-behind i, c i, W))))

@@ -29,12 +29,15 @@ fits owner list tiles bytes b e z =
     }
 
 -- of a store's call f: from the parts with their lengths as the code has them to the owner's own
+module _ {X : Type 0} (f : List ℕ → List ℕ → List ℕ → X) (list tiles bytes : List ℕ) (a b at n : ℕ) where
+  pub own-parts : f (part list a (a + 34 - a)) (part tiles b (b + 32 - b)) (part bytes at (at + n - at)) ≡ f (part list a 34) (part tiles b 32) (part bytes at n)
+  own-parts i = f (part list a (minus-is a 34 i)) (part tiles b (minus-is b 32 i)) (part bytes at (minus-is at n i))
+
+-- and what it leaves, put back
 module _ (f : List ℕ → List ℕ → List ℕ → Outcome) (list tiles bytes : List ℕ) (a b at n : ℕ) (o : Outcome) where
   abbrev patches : ℕ → ℕ → ℕ → Outcome → Outcome
   patches k l m p = (p .0, patched list a k (p .1), patched tiles b l (p .2), patched bytes at m (p .3))
 
   pub put-back : o ≡ f (part list a (a + 34 - a)) (part tiles b (b + 32 - b)) (part bytes at (at + n - at))
       → patches (a + 34 - a) (b + 32 - b) (at + n - at) o ≡ patches 34 32 n (f (part list a 34) (part tiles b 32) (part bytes at n))
-  put-back e =
-      (λ i. patches (minus-is a 34 i) (minus-is b 32 i) (minus-is at n i) o)
-      ∙ ap (patches 34 32 n) (e ∙ (λ i. f (part list a (minus-is a 34 i)) (part tiles b (minus-is b 32 i)) (part bytes at (minus-is at n i))))
+  put-back e = (λ i. patches (minus-is a 34 i) (minus-is b 32 i) (minus-is at n i) o) ∙ ap (patches 34 32 n) (e ∙ own-parts f list tiles bytes a b at n)

@@ -7,7 +7,7 @@ use Rattle.grid.specs.Real.{Vec, zero64, at}
 use Rattle.answers.specs.declared.Answer.{Answer}
 use Rattle.turnends.specs.TurnEnds.{fresh}
 use Rattle.turns.specs.Turns.{run}
-use Rattle.qlend.specs.QlEnd.{finished}
+use Rattle.qlend.specs.QlEnd.{qlFinished}
 
 -- the subdiagonal stands one place lower from here on, and its last is 0
 abbrev pub upStep : ℕ → Vec → Vec
@@ -19,4 +19,4 @@ movedUp n e = set (upto upStep 1 n e) (n - 1) zero64
 -- ---- the whole: the answer, v, d and e
 
 unfoldable pub tql2 : ℕ → ℕ → ℕ → Vec × Vec × Vec → Answer × Vec × Vec × Vec
-tql2 n limit edition (v, d, e) = finished n (run n limit edition (fresh, v, d, movedUp n e))
+tql2 n limit edition (v, d, e) = qlFinished n (run n limit edition (fresh, v, d, movedUp n e))

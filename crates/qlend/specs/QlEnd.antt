@@ -18,8 +18,8 @@ unfoldable pub mark2 : ℕ → Vec → Vec → Bad
 mark2 n v d = firstBad (d ++ byRows n v)
 
 -- a run that the limit stopped, or mark 1; else mark 2, and the sort
-unfoldable pub finished : ℕ → State → Answer × Vec × Vec × Vec
-finished n (r, v, d, e) =
+unfoldable pub qlFinished : ℕ → State → Answer × Vec × Vec × Vec
+qlFinished n (r, v, d, e) =
     cond (eqb (r .stop) limitUsed)
     (answered 9 (r .l) 0 (r .count), v, d, e)
     (cond (not (eqb (r .stop) going))

@@ -3,7 +3,7 @@ ghost use mathlib.Core.Path.{_≡_};
 ghost use Prim.Native.Nat.{_*_, _<_};
 ghost use lib.ListN.{length};
 ghost use Rattle.grid.specs.Real.{Vec};
-ghost use Rattle.qlend.specs.QlEnd.{mark2, finished};
+ghost use Rattle.qlend.specs.QlEnd.{mark2, qlFinished};
 use answers::Answer;
 use answers::answered;
 use answers::done;
@@ -30,7 +30,7 @@ fn mark2(n: usize, v: &[f64], d: &[f64]) -> Bad
 // The answer of a run, and the sort where it is done.
 pub fn finish(n: usize, r: Run, v: &mut [f64], d: &mut [f64]) -> Answer
     requires { ⌜ (0 < n) × (length (now v) ≡ n * n) × (length (now d) ≡ n) ⌝ }
-    ensures { λ a. ⌜ ((e : Vec) → (a, now (v .exit), now (d .exit), e) ≡ finished n (r, now (v .entry), now (d .entry), e)) ⌝ }
+    ensures { λ a. ⌜ ((e : Vec) → (a, now (v .exit), now (d .exit), e) ≡ qlFinished n (r, now (v .entry), now (d .entry), e)) ⌝ }
 {
     if r.stop == 9 {
         return answered(9, r.l, 0, r.count);

@@ -33,7 +33,7 @@ use Rattle.turnends.specs.TurnEnds.{State, fresh}
 use Rattle.turns.specs.Turns.{run}
 use Rattle.ql.specs.Ql.{upStep, movedUp, tql2}
 use Rattle.turnends.specs.TurnEnds as TurnEnds
-use Rattle.qlend.specs.QlEnd as QlEnd
+use Rattle.qlend.specs.QlEnd.{qlFinished}
 use Rattle.told.specs.Last.{plus-zero, moved-last}
 use Rattle.layout.specs.Layout.{columns}
 use Rattle.aftertred.specs.AfterTred.{mark0, afterTred}
@@ -65,7 +65,7 @@ stands n limit edition x = (recorded n limit edition (x .0) (done (x .0 .count))
 
 pub data Made (n limit edition : ℕ) (whole : Answer × Vec × Vec) (t : Outcome) : Type 0 where
   over : running (t .0) ≡ false → reply t ≡ whole → Made n limit edition whole t
-  runs : (x : State) → t ≡ stands n limit edition x → Fit n limit edition → Open n limit (x .0) → Body n x → given n (QlEnd.finished n (rest n limit edition x)) ≡ whole
+  runs : (x : State) → t ≡ stands n limit edition x → Fit n limit edition → Open n limit (x .0) → Body n x → given n (qlFinished n (rest n limit edition x)) ≡ whole
       → Made n limit edition whole t
 
 -- what is lent is what it was
@@ -123,9 +123,9 @@ module _ (n limit edition : ℕ) (x : State) (f : Fit n limit edition) (o : Open
       (answering q (passes-checks i), x .3, r))
       (q, x .3, r)
 
-  finish-is : n ≤ x .0 .l → reply (finished (recorded n limit edition (x .0) (done (x .0 .count))) (x .3) (x .2 ++ x .1)) ≡ given n (QlEnd.finished n x)
+  finish-is : n ≤ x .0 .l → reply (finished (recorded n limit edition (x .0) (done (x .0 .count))) (x .3) (x .2 ++ x .1)) ≡ given n (qlFinished n x)
   unfolding closedUp
-  finish-is h = ap reply (finish-to h) ∙ ap (λ (s : State). given n (QlEnd.finished n s)) same
+  finish-is h = ap reply (finish-to h) ∙ ap (λ (s : State). given n (qlFinished n s)) same
 
   early-is : x .0 .l < n
       → finished (recorded n limit edition (x .0) (done (x .0 .count))) (x .3) (x .2 ++ x .1) ≡ (recorded n limit edition (x .0) (refused 13 0), x .3, x .2 ++ x .1)
@@ -139,7 +139,7 @@ module _ (n limit edition : ℕ) (x : State) (f : Fit n limit edition) (o : Open
       (answering q (passes-checks i), x .3, r))
       (q, x .3, r)
 
-  kept-whole : given n (QlEnd.finished n (rest n limit edition (step n limit edition x))) ≡ given n (QlEnd.finished n (rest n limit edition x))
+  kept-whole : given n (qlFinished n (rest n limit edition (step n limit edition x))) ≡ given n (qlFinished n (rest n limit edition x))
   kept-whole =
       ap (given n) (step-whole n limit edition x (o .going) (o .at-most) (o .fewer) (λ q. omega (arith, o .above q, o .within)))
 
@@ -174,23 +174,23 @@ stepT t = stepped (t .0) (t .1) (t .2)
 
 module _ (n limit edition : ℕ) (whole : Answer × Vec × Vec) where
   -- a step of a run that goes on
-  ran : (x : State) → Fit n limit edition → Open n limit (x .0) → Body n x → given n (QlEnd.finished n (rest n limit edition x)) ≡ whole
+  ran : (x : State) → Fit n limit edition → Open n limit (x .0) → Body n x → given n (qlFinished n (rest n limit edition x)) ≡ whole
       → Made n limit edition whole (brought n limit edition (step n limit edition x))
   ran x f o b w = go (step-next n limit edition x o b)
     where
       y : State
       y = step n limit edition x
 
-      left : given n (QlEnd.finished n (rest n limit edition y)) ≡ whole
+      left : given n (qlFinished n (rest n limit edition y)) ≡ whole
       left = kept-whole n limit edition x f o b ∙ w
 
-      ends : length (y .2) ≡ n → closedUp n (y .0) (y .3) (y .2 ++ y .1) ≡ given n (QlEnd.finished n y)
-      ends l = unfold closedUp in ap (λ (s : State). given n (QlEnd.finished n s)) (state-is n y l)
+      ends : length (y .2) ≡ n → closedUp n (y .0) (y .3) (y .2 ++ y .1) ≡ given n (qlFinished n y)
+      ends l = unfold closedUp in ap (λ (s : State). given n (qlFinished n s)) (state-is n y l)
 
       go : Next n limit x y → Made n limit edition whole (brought n limit edition y)
       go (halts s l) =
           subst (Made n limit edition whole) (sym (brought-over n limit edition y s))
-          (over s (ends l ∙ ap (λ (u : State). given n (QlEnd.finished n u)) (sym (rest-ended n limit edition y (ap not s))) ∙ left))
+          (over s (ends l ∙ ap (λ (u : State). given n (qlFinished n u)) (sym (rest-ended n limit edition y (ap not s))) ∙ left))
       go (goes p c r) = runs y (brought-on n limit edition y (p .going)) f p c left
 
   step-made : (t : Outcome) → Made n limit edition whole t → Made n limit edition whole (stepT t)
@@ -217,7 +217,7 @@ module _ (n limit edition : ℕ) (whole : Answer × Vec × Vec) where
       let h : n ≤ x .0 .l = behind-last x o (subst (λ (u : Outcome). arrived (u .0) ≡ true) e a) in
       ap (λ (u : Outcome). reply (finished (u .0) (u .1) (u .2))) e
       ∙ finish-is n limit edition x f o b h
-      ∙ ap (λ (u : State). given n (QlEnd.finished n u)) (sym (rest-last n limit edition x (o .going) (none-left n limit edition x f o b h) h))
+      ∙ ap (λ (u : State). given n (qlFinished n u)) (sym (rest-last n limit edition x (o .going) (none-left n limit edition x f o b h) h))
       ∙ w
 
   -- and it has ended
@@ -391,7 +391,7 @@ module _ (n limit edition : ℕ) (a : Vec) (f : Fit n limit edition) where
           over refl (refuses k c (⊎-elim (λ (e : c ≡ 8). ap (λ (j : ℕ). eqb j 0) e) (λ (e : c ≡ 10). ap (λ (j : ℕ). eqb j 0) e) s))
       go Nowhere h =
           runs s refl f (fresh-open n limit (f .some) (limit-right limit (f .limits) .0)) (begun-body x (unfold first in refl) h)
-          (ap (λ (u : State). given n (QlEnd.finished n u)) (rest-fresh n limit edition s refl refl) ∙ (unfold tql2 run in refl))
+          (ap (λ (u : State). given n (qlFinished n u)) (rest-fresh n limit edition s refl refl) ∙ (unfold tql2 run in refl))
 
 pub started-made : (n limit edition : ℕ) (a work result : Vec) → Made n limit edition (eigen n limit edition a work result) (started n limit edition a work result)
 unfolding eigen started Eigen.entered entered

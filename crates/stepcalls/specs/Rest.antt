@@ -17,7 +17,7 @@ use Rattle.pass.specs.Pass.{pass}
 use Rattle.pass.specs.declared.Run.{Run}
 use Rattle.turnends.specs.TurnEnds.{State, opened, ended, released, closed}
 use Rattle.turns.specs.Turns.{iterated, stage, turn}
-use Rattle.qlend.specs.QlEnd.{mark2, finished}
+use Rattle.qlend.specs.QlEnd.{mark2, qlFinished}
 use Rattle.sort.specs.Sort.{sorted}
 use Rattle.settled.specs.Settled.{nextL, goneOn, come, skipped, found}
 use Rattle.machine.specs.Machine.{undecided, decided, step}
@@ -66,8 +66,8 @@ module _ (n limit edition : ℕ) where
 abbrev ending : ℕ → ℕ → Vec → Vec → Vec → Answer × Vec × Vec × Vec
 ending n c v d e = cond (isBad (mark2 n v d)) (marked 2 c (mark2 n v d), v, d, e) (done c, sorted n (v, d) .0, sorted n (v, d) .1, e)
 
-pub finished-going : (n : ℕ) (x : State) → x .0 .stop ≡ 0 → finished n x ≡ ending n (x .0 .count) (x .1) (x .2) (x .3)
-unfolding finished
+pub finished-going : (n : ℕ) (x : State) → x .0 .stop ≡ 0 → qlFinished n x ≡ ending n (x .0 .count) (x .1) (x .2) (x .3)
+unfolding qlFinished
 finished-going n x q = λ i.
     cond (eqb (q i) 9)
     (answered 9 (x .0 .l) 0 (x .0 .count), x .1, x .2, x .3)
@@ -82,17 +82,17 @@ module _ (n limit edition : ℕ) where
       ∙ sym (turn-going n limit edition l (r, v, d, e) (going-on (r, v, d, e) q))
 
   next-whole : (a : ℕ) (r : Run) (v d e : Vec) → r .stop ≡ 0
-      → finished n (upto (turn n limit edition) a n (nextL r, v, d, e)) ≡ finished n (upto (turn n limit edition) a n (r, v, d, e))
+      → qlFinished n (upto (turn n limit edition) a n (nextL r, v, d, e)) ≡ qlFinished n (upto (turn n limit edition) a n (r, v, d, e))
   next-whole a r v d e q = elim (decLt a n) [
     | yes h ↦
-        ap (finished n) (upto-first (turn n limit edition) a n (nextL r, v, d, e) h)
-        ∙ ap (λ (s : State). finished n (upto (turn n limit edition) (a + 1) n s)) (next-turn a r v d e q)
-        ∙ ap (finished n) (sym (upto-first (turn n limit edition) a n (r, v, d, e) h))
+        ap (qlFinished n) (upto-first (turn n limit edition) a n (nextL r, v, d, e) h)
+        ∙ ap (λ (s : State). qlFinished n (upto (turn n limit edition) (a + 1) n s)) (next-turn a r v d e q)
+        ∙ ap (qlFinished n) (sym (upto-first (turn n limit edition) a n (r, v, d, e) h))
     | no h ↦
-        ap (finished n) (upto-past (turn n limit edition) a n (nextL r, v, d, e) (omega arith))
+        ap (qlFinished n) (upto-past (turn n limit edition) a n (nextL r, v, d, e) (omega arith))
         ∙ finished-going n (nextL r, v, d, e) q
         ∙ sym (finished-going n (r, v, d, e) q)
-        ∙ ap (finished n) (sym (upto-past (turn n limit edition) a n (r, v, d, e) (omega arith)))
+        ∙ ap (qlFinished n) (sym (upto-past (turn n limit edition) a n (r, v, d, e) (omega arith)))
   ]
 
 -- ---- what is left
@@ -136,19 +136,19 @@ module _ (n limit edition : ℕ) where
 
   -- ---- to the next l
 
-  onward-whole : (x : State) → finished n (rest n limit edition (goneOn x)) ≡ finished n (upto (turn n limit edition) (x .0 .l + 1) n x)
+  onward-whole : (x : State) → qlFinished n (rest n limit edition (goneOn x)) ≡ qlFinished n (upto (turn n limit edition) (x .0 .l + 1) n x)
   onward-whole x = go (eqb (x .0 .stop) 0) refl
     where
-      go : (b : Bool) → eqb (x .0 .stop) 0 ≡ b → finished n (rest n limit edition (goneOn x)) ≡ finished n (upto (turn n limit edition) (x .0 .l + 1) n x)
+      go : (b : Bool) → eqb (x .0 .stop) 0 ≡ b → qlFinished n (rest n limit edition (goneOn x)) ≡ qlFinished n (upto (turn n limit edition) (x .0 .l + 1) n x)
       go true t =
           let q : x .0 .stop ≡ 0 = eqb-true _ _ t in
-          ap (λ (s : State). finished n (rest n limit edition s)) (onward-going x q)
-          ∙ ap (finished n) (rest-fresh (nextL (x .0), x .1, x .2, x .3) q refl)
+          ap (λ (s : State). qlFinished n (rest n limit edition s)) (onward-going x q)
+          ∙ ap (qlFinished n) (rest-fresh (nextL (x .0), x .1, x .2, x .3) q refl)
           ∙ next-whole n limit edition (x .0 .l + 1) (x .0) (x .1) (x .2) (x .3) q
       go false t =
           let e : ended x ≡ true = ap not t in
-          ap (λ (s : State). finished n (rest n limit edition s)) (onward-ended x e)
-          ∙ ap (finished n) (rest-ended x e ∙ sym (run-ended n limit edition (x .0 .l + 1) x e))
+          ap (λ (s : State). qlFinished n (rest n limit edition s)) (onward-ended x e)
+          ∙ ap (qlFinished n) (rest-ended x e ∙ sym (run-ended n limit edition (x .0 .l + 1) x e))
 
   -- ---- what the run does at an l that it comes to
 
@@ -163,7 +163,7 @@ module _ (n limit edition : ℕ) where
 
 -- x with settled l skipped is y
 pub record Skip (n limit edition : ℕ) (x y : State) : Type 0 where
-  pub whole : finished n (upto (turn n limit edition) (x .0 .l) n x) ≡ finished n (after n limit edition y)
+  pub whole : qlFinished n (upto (turn n limit edition) (x .0 .l) n x) ≡ qlFinished n (after n limit edition y)
   pub going : y .0 .stop ≡ 0
   pub none : y .0 .passes ≡ 0
 
@@ -172,16 +172,16 @@ module _ (n limit edition : ℕ) where
   unfolding skipped
   skip zero x h q p =
       record {
-        whole = ap (finished n) (upto-past (turn n limit edition) (x .0 .l) n x (omega arith) ∙ sym (after-past n limit edition x (omega arith)));
+        whole = ap (qlFinished n) (upto-past (turn n limit edition) (x .0 .l) n x (omega arith) ∙ sym (after-past n limit edition x (omega arith)));
         going = q;
         none = p;
       }
   skip (suc k) x h q p = go (coming n k x) (skip k (passedOver n x) (unfold opened in omega arith) refl (unfold opened in refl))
     where
-      front : finished n (upto (turn n limit edition) (x .0 .l) n x) ≡ finished n (upto (turn n limit edition) (x .0 .l + 1) n (stage n limit edition (x .0 .l) x))
+      front : qlFinished n (upto (turn n limit edition) (x .0 .l) n x) ≡ qlFinished n (upto (turn n limit edition) (x .0 .l + 1) n (stage n limit edition (x .0 .l) x))
       front =
-          ap (finished n) (upto-first (turn n limit edition) (x .0 .l) n x (omega arith))
-          ∙ ap (λ (s : State). finished n (upto (turn n limit edition) (x .0 .l + 1) n s)) (turn-going n limit edition (x .0 .l) x (going-on x q))
+          ap (qlFinished n) (upto-first (turn n limit edition) (x .0 .l) n x (omega arith))
+          ∙ ap (λ (s : State). qlFinished n (upto (turn n limit edition) (x .0 .l + 1) n s)) (turn-going n limit edition (x .0 .l) x (going-on x q))
 
       go : Coming n k x → Skip n limit edition (passedOver n x) (skipped n k (passedOver n x)) → Skip n limit edition x (skipped n (suc k) x)
       go (settles s e) r = subst (Skip n limit edition x) (sym e) (later r)
@@ -189,20 +189,20 @@ module _ (n limit edition : ℕ) where
           y : State
           y = released (come n x)
 
-          here : finished n (upto (turn n limit edition) (x .0 .l + 1) n (stage n limit edition (x .0 .l) x)) ≡ finished n (upto (turn n limit edition) (x .0 .l + 1) n (passedOver n x))
+          here : qlFinished n (upto (turn n limit edition) (x .0 .l + 1) n (stage n limit edition (x .0 .l) x)) ≡ qlFinished n (upto (turn n limit edition) (x .0 .l + 1) n (passedOver n x))
           here =
-              ap (λ (s : State). finished n (upto (turn n limit edition) (x .0 .l + 1) n s)) (stage-settled n limit edition x s)
+              ap (λ (s : State). qlFinished n (upto (turn n limit edition) (x .0 .l + 1) n s)) (stage-settled n limit edition x s)
               ∙ sym (next-whole n limit edition (x .0 .l + 1) (y .0) (y .1) (y .2) (y .3) refl)
 
           later : Skip n limit edition (passedOver n x) (skipped n k (passedOver n x)) → Skip n limit edition x (skipped n k (passedOver n x))
           later r = unfold opened in record { whole = front ∙ here ∙ r .whole; going = r .going; none = r .none }
       go (stays s b e) r = subst (Skip n limit edition x) (sym e) (record { whole = front ∙ here; going = s; none = unfold opened in refl })
         where
-          here : finished n (upto (turn n limit edition) (x .0 .l + 1) n (stage n limit edition (x .0 .l) x)) ≡ finished n (after n limit edition (come n x))
+          here : qlFinished n (upto (turn n limit edition) (x .0 .l + 1) n (stage n limit edition (x .0 .l) x)) ≡ qlFinished n (after n limit edition (come n x))
           here = unfold opened worked in
-              ap (λ (s : State). finished n (upto (turn n limit edition) (x .0 .l + 1) n s)) (stage-stays n limit edition x s)
-              ∙ ap (λ (j : ℕ). finished n (upto (turn n limit edition) (x .0 .l + 1) n (closed (rounds (pass n edition) ended j (come n x))))) (omega arith)
-              ∙ ap (finished n) (sym (after-within n limit edition (come n x) (omega arith)))
+              ap (λ (s : State). qlFinished n (upto (turn n limit edition) (x .0 .l + 1) n s)) (stage-stays n limit edition x s)
+              ∙ ap (λ (j : ℕ). qlFinished n (upto (turn n limit edition) (x .0 .l + 1) n (closed (rounds (pass n edition) ended j (come n x))))) (omega arith)
+              ∙ ap (qlFinished n) (sym (after-within n limit edition (come n x) (omega arith)))
 
   -- ---- one pass
 
@@ -214,7 +214,7 @@ module _ (n limit edition : ℕ) where
   unfolding pass
   pass-l x = refl
 
-  decided-whole : (x : State) → x .0 .passes < limit → finished n (rest n limit edition (decided limit (pass n edition x))) ≡ finished n (worked n limit edition x)
+  decided-whole : (x : State) → x .0 .passes < limit → qlFinished n (rest n limit edition (decided limit (pass n edition x))) ≡ qlFinished n (worked n limit edition x)
   decided-whole x h = go (eqb (y .0 .stop) 0) refl (ltb (y .0 .passes) limit) refl
     where
       y : State
@@ -230,7 +230,7 @@ module _ (n limit edition : ℕ) where
           rw s (λ i. cond (e i) y (rounds (pass n edition) ended k y))
 
       at-l : State → Answer × Vec × Vec × Vec
-      at-l z = finished n (upto (turn n limit edition) (x .0 .l + 1) n (closed z))
+      at-l z = qlFinished n (upto (turn n limit edition) (x .0 .l + 1) n (closed z))
 
       pick : {b : Bool} → undecided limit (y .0) ≡ b → decided limit y ≡ cond b y (goneOn (closed y))
       pick e = unfold decided in λ i. cond (e i) y (goneOn (closed y))
@@ -239,29 +239,29 @@ module _ (n limit edition : ℕ) where
       closes-at = closed-l y ∙ pass-l x
 
       -- the passes at this l are over
-      leaves : undecided limit (y .0) ≡ false → rounds (pass n edition) ended (limit - x .0 .passes) x ≡ y → finished n (rest n limit edition (decided limit y)) ≡ finished n (worked n limit edition x)
+      leaves : undecided limit (y .0) ≡ false → rounds (pass n edition) ended (limit - x .0 .passes) x ≡ y → qlFinished n (rest n limit edition (decided limit y)) ≡ qlFinished n (worked n limit edition x)
       leaves u r = unfold worked in
-          ap (λ (s : State). finished n (rest n limit edition s)) (pick u)
+          ap (λ (s : State). qlFinished n (rest n limit edition s)) (pick u)
           ∙ onward-whole n limit edition (closed y)
-          ∙ ap (λ (j : ℕ). finished n (upto (turn n limit edition) (j + 1) n (closed y))) closes-at
+          ∙ ap (λ (j : ℕ). qlFinished n (upto (turn n limit edition) (j + 1) n (closed y))) closes-at
           ∙ ap at-l (sym r)
 
-      go : (a : Bool) → eqb (y .0 .stop) 0 ≡ a → (b : Bool) → ltb (y .0 .passes) limit ≡ b → finished n (rest n limit edition (decided limit y)) ≡ finished n (worked n limit edition x)
+      go : (a : Bool) → eqb (y .0 .stop) 0 ≡ a → (b : Bool) → ltb (y .0 .passes) limit ≡ b → qlFinished n (rest n limit edition (decided limit y)) ≡ qlFinished n (worked n limit edition x)
       go false s b t = unfold undecided worked in leaves (λ i. s i && ltb (y .0 .passes) limit) (one (ap not s))
       go true s false t = unfold undecided worked in
           let z : k ≡ 0 = omega (arith, ltb-false (y .0 .passes) limit t) in
           let none : y ≡ rounds (pass n edition) ended k y = rounds-done (pass n edition) ended k (omega arith) refl in
           leaves (λ i. s i && t i) (one (ap not s) ∙ sym none)
       go true s true t = unfold undecided worked in
-          ap (λ (s : State). finished n (rest n limit edition s)) (pick (λ i. s i && t i))
-          ∙ ap (finished n) (rest-worked n limit edition y (eqb-true _ _ s) (ne-eqb _ _ (λ (q : y .0 .passes ≡ 0). omega (arith, pass-passes x))))
-          ∙ ap (λ (j : ℕ). finished n (upto (turn n limit edition) (j + 1) n (closed (rounds (pass n edition) ended k y)))) (pass-l x)
+          ap (λ (s : State). qlFinished n (rest n limit edition s)) (pick (λ i. s i && t i))
+          ∙ ap (qlFinished n) (rest-worked n limit edition y (eqb-true _ _ s) (ne-eqb _ _ (λ (q : y .0 .passes ≡ 0). omega (arith, pass-passes x))))
+          ∙ ap (λ (j : ℕ). qlFinished n (upto (turn n limit edition) (j + 1) n (closed (rounds (pass n edition) ended k y)))) (pass-l x)
           ∙ ap at-l (sym (one (ap not s)))
 
   -- ---- one step
 
   pub step-whole : (x : State) → x .0 .stop ≡ 0 → x .0 .l ≤ n → x .0 .passes < limit → ((x .0 .passes ≡ 0 → ⊥) → x .0 .l < n)
-      → finished n (rest n limit edition (step n limit edition x)) ≡ finished n (rest n limit edition x)
+      → qlFinished n (rest n limit edition (step n limit edition x)) ≡ qlFinished n (rest n limit edition x)
   step-whole x q l p w = first (eqb (x .0 .passes) 0) refl
     where
       pick : {b : Bool} → ltb (found n x .0 .l) n ≡ b → step n limit edition x ≡ cond b (decided limit (pass n edition (found n x))) (found n x)
@@ -269,29 +269,29 @@ module _ (n limit edition : ℕ) where
 
       -- y is where the pass is run
       from : (y : State) → found n x ≡ y → y .0 .stop ≡ 0 → y .0 .passes < limit → (n ≤ y .0 .l → y .0 .passes ≡ 0)
-          → finished n (rest n limit edition x) ≡ finished n (after n limit edition y) → finished n (rest n limit edition (step n limit edition x)) ≡ finished n (rest n limit edition x)
+          → qlFinished n (rest n limit edition x) ≡ qlFinished n (after n limit edition y) → qlFinished n (rest n limit edition (step n limit edition x)) ≡ qlFinished n (rest n limit edition x)
       from y f s b z g = go (ltb (y .0 .l) n) refl
         where
-          go : (t : Bool) → ltb (y .0 .l) n ≡ t → finished n (rest n limit edition (step n limit edition x)) ≡ finished n (rest n limit edition x)
+          go : (t : Bool) → ltb (y .0 .l) n ≡ t → qlFinished n (rest n limit edition (step n limit edition x)) ≡ qlFinished n (rest n limit edition x)
           go true t =
-              ap (λ (s : State). finished n (rest n limit edition s)) (pick (ap (λ (s : State). ltb (s .0 .l) n) f ∙ t) ∙ ap (λ (s : State). decided limit (pass n edition s)) f)
+              ap (λ (s : State). qlFinished n (rest n limit edition s)) (pick (ap (λ (s : State). ltb (s .0 .l) n) f ∙ t) ∙ ap (λ (s : State). decided limit (pass n edition s)) f)
               ∙ decided-whole y b
-              ∙ ap (finished n) (sym (after-within n limit edition y (ltb-true _ _ t)))
+              ∙ ap (qlFinished n) (sym (after-within n limit edition y (ltb-true _ _ t)))
               ∙ sym g
           go false t =
               let h : n ≤ y .0 .l = ltb-false _ _ t in
-              ap (λ (s : State). finished n (rest n limit edition s)) (pick (ap (λ (s : State). ltb (s .0 .l) n) f ∙ t) ∙ f)
-              ∙ ap (finished n) (rest-last n limit edition y s (z h) h ∙ sym (after-past n limit edition y h))
+              ap (λ (s : State). qlFinished n (rest n limit edition s)) (pick (ap (λ (s : State). ltb (s .0 .l) n) f ∙ t) ∙ f)
+              ∙ ap (qlFinished n) (rest-last n limit edition y s (z h) h ∙ sym (after-past n limit edition y h))
               ∙ sym g
 
       look : {b : Bool} → eqb (x .0 .passes) 0 ≡ b → found n x ≡ cond b (skipped n (n - x .0 .l) x) x
       look e = unfold found in λ i. cond (e i) (skipped n (n - x .0 .l) x) x
 
-      first : (b : Bool) → eqb (x .0 .passes) 0 ≡ b → finished n (rest n limit edition (step n limit edition x)) ≡ finished n (rest n limit edition x)
+      first : (b : Bool) → eqb (x .0 .passes) 0 ≡ b → qlFinished n (rest n limit edition (step n limit edition x)) ≡ qlFinished n (rest n limit edition x)
       first true t =
           let z : x .0 .passes ≡ 0 = eqb-true _ _ t in
           let s = skip (n - x .0 .l) x (omega arith) q z in
-          from (skipped n (n - x .0 .l) x) (look t) (s .going) (omega (arith, s .none)) (λ h. s .none) (ap (finished n) (rest-fresh n limit edition x q z) ∙ s .whole)
+          from (skipped n (n - x .0 .l) x) (look t) (s .going) (omega (arith, s .none)) (λ h. s .none) (ap (qlFinished n) (rest-fresh n limit edition x q z) ∙ s .whole)
       first false t =
           let h : x .0 .l < n = w (eqb-false _ _ t) in
-          from x (look t) q p (λ g. absurd (omega arith)) (ap (finished n) (rest-worked n limit edition x q t ∙ sym (after-within n limit edition x h)))
+          from x (look t) q p (λ g. absurd (omega arith)) (ap (qlFinished n) (rest-worked n limit edition x q t ∙ sym (after-within n limit edition x h)))

@@ -12,7 +12,7 @@ use Rattle.grid.specs.Real.{Vec}
 use Rattle.pass.specs.Pass.{pass}
 use Rattle.turnends.specs.TurnEnds.{State, fresh, opened, ended, closed}
 use Rattle.turns.specs.Turns.{iterated, stage, turn, run}
-use Rattle.qlend.specs.QlEnd.{finished}
+use Rattle.qlend.specs.QlEnd.{qlFinished}
 use Rattle.ql.specs.Ql.{movedUp, tql2}
 
 -- the rounds of one l
@@ -57,12 +57,12 @@ unfolding run
 run-limit n edition k m x z p = upto-both (λ j s t. (s .0 .stop ≡ 9 → ⊥) → t ≡ s) (turn n k edition) (turn n m edition) 0 n x x (omega arith) (λ l s t a b h. turn-limit n edition k m l s t z p h) (λ h. refl)
 
 -- a run that stops with 9 is refused with 9
-finished-nine : (n : ℕ) (x : State) → x .0 .stop ≡ 9 → finished n x .0 .answer ≡ 9
-unfolding finished
+finished-nine : (n : ℕ) (x : State) → x .0 .stop ≡ 9 → qlFinished n x .0 .answer ≡ 9
+unfolding qlFinished
 finished-nine n x e = rw e
 
 pub tql2-limit : (n edition k m : ℕ) (x : Vec × Vec × Vec) → 0 < k → k ≤ m → (tql2 n k edition x .0 .answer ≡ 9 → ⊥) → tql2 n m edition x ≡ tql2 n k edition x
 unfolding tql2
 tql2-limit n edition k m x z p h =
     let s : State = (fresh, x .0, x .1, movedUp n (x .2)) in
-    ap (finished n) (run-limit n edition k m s z p (λ e. h (finished-nine n (run n k edition s) e)))
+    ap (qlFinished n) (run-limit n edition k m s z p (λ e. h (finished-nine n (run n k edition s) e)))

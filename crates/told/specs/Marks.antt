@@ -29,7 +29,7 @@ use Rattle.transform.specs.Transform.{transformed}
 use Rattle.pass.specs.Pass.{tiny, mark1, judged, verdict, pass}
 use Rattle.turnends.specs.TurnEnds.{State, fresh, opened, ended, stopping, released, closed}
 use Rattle.turns.specs.Turns.{iterated, stage, turn, run}
-use Rattle.qlend.specs.QlEnd.{mark2, finished}
+use Rattle.qlend.specs.QlEnd.{mark2, qlFinished}
 use Rattle.ql.specs.Ql.{movedUp, tql2}
 use Rattle.sort.specs.Sort.{sorted}
 use Rattle.turnends.specs.Bounds.{split-below}
@@ -313,8 +313,8 @@ mark2-first : (n : ℕ) (x : Carried) (b i : ℕ) → mark2 n (x .v) (x .d) ≡ 
 unfolding mark2
 mark2-first n x b i h = scan-first (at (list2 n x)) (length (list2 n x)) i b h
 
-finished-told : (n limit edition : ℕ) (x : Vec × Vec × Vec) (y : State) → length (x .0) ≡ n * n → Stood n limit edition (begun n x) n y → Told n limit edition x (finished n y)
-unfolding finished Stopped
+finished-told : (n limit edition : ℕ) (x : Vec × Vec × Vec) (y : State) → length (x .0) ≡ n * n → Stood n limit edition (begun n x) n y → Told n limit edition x (qlFinished n y)
+unfolding qlFinished Stopped
 finished-told n limit edition x y long s = go s
   where
     end : Bad → Ended

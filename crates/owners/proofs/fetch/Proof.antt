@@ -1,11 +1,13 @@
 -- Generated from the answers file beside it by tools/prove/prove.py: edit that.
 -- `owners::fetch` meets its contract.
-use Prim.Native.Nat.{_+_, _*_}
+use mathlib.Core.Path.{_∙_}
+use Prim.Native.Nat.{ℕ, _+_, _*_}
 use native.Mathlib.Omega.{arith}
 use borrow.Author.Needs.{needs}
 use denote.Ref.{now}
-use Rattle.owners.proofs.Fits.{Fits, fits}
-use Rattle.ownermap.specs.LaidLaws.{minus-is}
+use Rattle.owners.proofs.Fits.{fits, own-parts}
+use mathlib.Core.List.{List}
+use Rattle.storemap.specs.Store.{fetchOf}
 use borrow.Author.Tests.{eq-eqb, ne-eqb}
 use Rattle.ownermap.specs.Owners.{quotaOf, startFor, barred, fetchFor}
 use Rattle.owners.proofs.fetch.Statement.{statement}
@@ -22,77 +24,77 @@ unfolding fetchFor
 returns c = rw (← c .before .before .bar .ensures, ne-eqb (c .before .before .bar .result) 0 (c .before .if1 .taken), c .refused .ensures)
 
 mul-a : tie.Need-mul-a
-mul-a c = let f = fits _ (now (c .before .before .before .before .before .before .args .list)) (now (c .before .before .before .before .before .before .args .tiles)) (now (c .before .before .before .before .before .before .args .bytes)) _ (c .before .bar .ensures) (c .if1 .left) in omega (arith, f .one, f .lists, f .tiled, f .starts, f .room)
+mul-a c = omega (arith, fits (c .before .before .before .before .before .before .args .owner) (now (c .before .before .before .before .before .before .args .list)) (now (c .before .before .before .before .before .before .args .tiles)) (now (c .before .before .before .before .before .before .args .bytes)) (c .before .bar .result) (c .before .bar .ensures) (c .if1 .left))
 
 add-a : tie.Need-add-a
-add-a c = let f = fits _ (now (c .before .before .before .before .before .before .args .list)) (now (c .before .before .before .before .before .before .args .tiles)) (now (c .before .before .before .before .before .before .args .bytes)) _ (c .before .bar .ensures) (c .if1 .left) in omega (arith, f .one, f .lists, f .tiled, f .starts, f .room)
+add-a c = omega (arith, fits (c .before .before .before .before .before .before .args .owner) (now (c .before .before .before .before .before .before .args .list)) (now (c .before .before .before .before .before .before .args .tiles)) (now (c .before .before .before .before .before .before .args .bytes)) (c .before .bar .result) (c .before .bar .ensures) (c .if1 .left))
 
 add-e : tie.Need-add-e
-add-e c = let f = fits _ (now (c .before .before .before .before .before .before .args .list)) (now (c .before .before .before .before .before .before .args .tiles)) (now (c .before .before .before .before .before .before .args .bytes)) _ (c .before .bar .ensures) (c .if1 .left) in omega (arith, f .one, f .lists, f .tiled, f .starts, f .room)
+add-e c = omega (arith, fits (c .before .before .before .before .before .before .args .owner) (now (c .before .before .before .before .before .before .args .list)) (now (c .before .before .before .before .before .before .args .tiles)) (now (c .before .before .before .before .before .before .args .bytes)) (c .before .bar .result) (c .before .bar .ensures) (c .if1 .left))
 
 mul-b : tie.Need-mul-b
-mul-b c = let f = fits _ (now (c .before .before .before .before .before .before .args .list)) (now (c .before .before .before .before .before .before .args .tiles)) (now (c .before .before .before .before .before .before .args .bytes)) _ (c .before .bar .ensures) (c .if1 .left) in omega (arith, f .one, f .lists, f .tiled, f .starts, f .room)
+mul-b c = omega (arith, fits (c .before .before .before .before .before .before .args .owner) (now (c .before .before .before .before .before .before .args .list)) (now (c .before .before .before .before .before .before .args .tiles)) (now (c .before .before .before .before .before .before .args .bytes)) (c .before .bar .result) (c .before .bar .ensures) (c .if1 .left))
 
 add-f : tie.Need-add-f
-add-f c = let f = fits _ (now (c .before .before .before .before .before .before .args .list)) (now (c .before .before .before .before .before .before .args .tiles)) (now (c .before .before .before .before .before .before .args .bytes)) _ (c .before .bar .ensures) (c .if1 .left) in omega (arith, f .one, f .lists, f .tiled, f .starts, f .room)
+add-f c = omega (arith, fits (c .before .before .before .before .before .before .args .owner) (now (c .before .before .before .before .before .before .args .list)) (now (c .before .before .before .before .before .before .args .tiles)) (now (c .before .before .before .before .before .before .args .bytes)) (c .before .bar .result) (c .before .bar .ensures) (c .if1 .left))
 
 shared-slice-read-at : tie.Need-shared-slice-read-at
-shared-slice-read-at c = let f = fits _ (now (c .before .before .before .before .before .before .before .args .list)) (now (c .before .before .before .before .before .before .before .args .tiles)) (now (c .before .before .before .before .before .before .before .args .bytes)) _ (c .before .before .bar .ensures) (c .before .if1 .left) in omega (arith, f .one, f .lists, f .tiled, f .starts, f .room)
+shared-slice-read-at c = omega (arith, fits (c .before .before .before .before .before .before .before .args .owner) (now (c .before .before .before .before .before .before .before .args .list)) (now (c .before .before .before .before .before .before .before .args .tiles)) (now (c .before .before .before .before .before .before .before .args .bytes)) (c .before .before .bar .result) (c .before .before .bar .ensures) (c .before .if1 .left))
 
 mul-at : tie.Need-mul-at
-mul-at c = let f = fits _ (now (c .before .before .before .before .before .before .before .args .list)) (now (c .before .before .before .before .before .before .before .args .tiles)) (now (c .before .before .before .before .before .before .before .args .bytes)) _ (c .before .before .bar .ensures) (c .before .if1 .left) in omega (arith, f .one, f .lists, f .tiled, f .starts, f .room)
+mul-at c = omega (arith, fits (c .before .before .before .before .before .before .before .args .owner) (now (c .before .before .before .before .before .before .before .args .list)) (now (c .before .before .before .before .before .before .before .args .tiles)) (now (c .before .before .before .before .before .before .before .args .bytes)) (c .before .before .bar .result) (c .before .before .bar .ensures) (c .before .if1 .left))
 
 mul-end : tie.Need-mul-end
-mul-end c = let f = fits _ (now (c .before .before .before .before .before .before .before .args .list)) (now (c .before .before .before .before .before .before .before .args .tiles)) (now (c .before .before .before .before .before .before .before .args .bytes)) _ (c .before .before .bar .ensures) (c .before .if1 .left) in omega (arith, f .one, f .lists, f .tiled, f .starts, f .room)
+mul-end c = omega (arith, fits (c .before .before .before .before .before .before .before .args .owner) (now (c .before .before .before .before .before .before .before .args .list)) (now (c .before .before .before .before .before .before .before .args .tiles)) (now (c .before .before .before .before .before .before .before .args .bytes)) (c .before .before .bar .result) (c .before .before .bar .ensures) (c .before .if1 .left))
 
 shared-slice-read-end : tie.Need-shared-slice-read-end
-shared-slice-read-end c = let f = fits _ (now (c .before .before .before .before .before .before .before .before .args .list)) (now (c .before .before .before .before .before .before .before .before .args .tiles)) (now (c .before .before .before .before .before .before .before .before .args .bytes)) _ (c .before .before .before .bar .ensures) (c .before .before .if1 .left) in omega (arith, f .one, f .lists, f .tiled, f .starts, f .room)
+shared-slice-read-end c = omega (arith, fits (c .before .before .before .before .before .before .before .before .args .owner) (now (c .before .before .before .before .before .before .before .before .args .list)) (now (c .before .before .before .before .before .before .before .before .args .tiles)) (now (c .before .before .before .before .before .before .before .before .args .bytes)) (c .before .before .before .bar .result) (c .before .before .before .bar .ensures) (c .before .before .if1 .left))
 
 add-end : tie.Need-add-end
-add-end c = let f = fits _ (now (c .before .before .before .before .before .before .before .before .args .list)) (now (c .before .before .before .before .before .before .before .before .args .tiles)) (now (c .before .before .before .before .before .before .before .before .args .bytes)) _ (c .before .before .before .bar .ensures) (c .before .before .if1 .left) in omega (arith, f .one, f .lists, f .tiled, f .starts, f .room)
+add-end c = omega (arith, fits (c .before .before .before .before .before .before .before .before .args .owner) (now (c .before .before .before .before .before .before .before .before .args .list)) (now (c .before .before .before .before .before .before .before .before .args .tiles)) (now (c .before .before .before .before .before .before .before .before .args .bytes)) (c .before .before .before .bar .result) (c .before .before .before .bar .ensures) (c .before .before .if1 .left))
 
 mul-fetch : tie.Need-mul-fetch
-mul-fetch c = let f = fits _ (now (c .before .before .before .before .before .before .before .before .args .list)) (now (c .before .before .before .before .before .before .before .before .args .tiles)) (now (c .before .before .before .before .before .before .before .before .args .bytes)) _ (c .before .before .before .bar .ensures) (c .before .before .if1 .left) in omega (arith, f .one, f .lists, f .tiled, f .starts, f .room)
+mul-fetch c = omega (arith, fits (c .before .before .before .before .before .before .before .before .args .owner) (now (c .before .before .before .before .before .before .before .before .args .list)) (now (c .before .before .before .before .before .before .before .before .args .tiles)) (now (c .before .before .before .before .before .before .before .before .args .bytes)) (c .before .before .before .bar .result) (c .before .before .before .bar .ensures) (c .before .before .if1 .left))
 
 sub-fetch : tie.Need-sub-fetch
-sub-fetch c = let f = fits _ (now (c .before .before .before .before .before .before .before .before .args .list)) (now (c .before .before .before .before .before .before .before .before .args .tiles)) (now (c .before .before .before .before .before .before .before .before .args .bytes)) _ (c .before .before .before .bar .ensures) (c .before .before .if1 .left) in omega (arith, f .one, f .lists, f .tiled, f .starts, f .room)
+sub-fetch c = omega (arith, fits (c .before .before .before .before .before .before .before .before .args .owner) (now (c .before .before .before .before .before .before .before .before .args .list)) (now (c .before .before .before .before .before .before .before .before .args .tiles)) (now (c .before .before .before .before .before .before .before .before .args .bytes)) (c .before .before .before .bar .result) (c .before .before .before .bar .ensures) (c .before .before .if1 .left))
 
 part-fetch-start : tie.Need-part-fetch-start
-part-fetch-start c = let f = fits _ (now (c .before .before .before .before .before .before .before .before .args .list)) (now (c .before .before .before .before .before .before .before .before .args .tiles)) (now (c .before .before .before .before .before .before .before .before .args .bytes)) _ (c .before .before .before .bar .ensures) (c .before .before .if1 .left) in omega (arith, f .one, f .lists, f .tiled, f .starts, f .room)
+part-fetch-start c = omega (arith, fits (c .before .before .before .before .before .before .before .before .args .owner) (now (c .before .before .before .before .before .before .before .before .args .list)) (now (c .before .before .before .before .before .before .before .before .args .tiles)) (now (c .before .before .before .before .before .before .before .before .args .bytes)) (c .before .before .before .bar .result) (c .before .before .before .bar .ensures) (c .before .before .if1 .left))
 
 part-fetch-end : tie.Need-part-fetch-end
-part-fetch-end c = let f = fits _ (now (c .before .before .before .before .before .before .before .before .args .list)) (now (c .before .before .before .before .before .before .before .before .args .tiles)) (now (c .before .before .before .before .before .before .before .before .args .bytes)) _ (c .before .before .before .bar .ensures) (c .before .before .if1 .left) in omega (arith, f .one, f .lists, f .tiled, f .starts, f .room)
+part-fetch-end c = omega (arith, fits (c .before .before .before .before .before .before .before .before .args .owner) (now (c .before .before .before .before .before .before .before .before .args .list)) (now (c .before .before .before .before .before .before .before .before .args .tiles)) (now (c .before .before .before .before .before .before .before .before .args .bytes)) (c .before .before .before .bar .result) (c .before .before .before .bar .ensures) (c .before .before .if1 .left))
 
 mul-fetch-2 : tie.Need-mul-fetch-2
-mul-fetch-2 c = let f = fits _ (now (c .before .before .before .before .before .before .before .before .before .args .list)) (now (c .before .before .before .before .before .before .before .before .before .args .tiles)) (now (c .before .before .before .before .before .before .before .before .before .args .bytes)) _ (c .before .before .before .before .bar .ensures) (c .before .before .before .if1 .left) in omega (arith, f .one, f .lists, f .tiled, f .starts, f .room)
+mul-fetch-2 c = omega (arith, fits (c .before .before .before .before .before .before .before .before .before .args .owner) (now (c .before .before .before .before .before .before .before .before .before .args .list)) (now (c .before .before .before .before .before .before .before .before .before .args .tiles)) (now (c .before .before .before .before .before .before .before .before .before .args .bytes)) (c .before .before .before .before .bar .result) (c .before .before .before .before .bar .ensures) (c .before .before .before .if1 .left))
 
 sub-fetch-2 : tie.Need-sub-fetch-2
-sub-fetch-2 c = let f = fits _ (now (c .before .before .before .before .before .before .before .before .before .args .list)) (now (c .before .before .before .before .before .before .before .before .before .args .tiles)) (now (c .before .before .before .before .before .before .before .before .before .args .bytes)) _ (c .before .before .before .before .bar .ensures) (c .before .before .before .if1 .left) in omega (arith, f .one, f .lists, f .tiled, f .starts, f .room)
+sub-fetch-2 c = omega (arith, fits (c .before .before .before .before .before .before .before .before .before .args .owner) (now (c .before .before .before .before .before .before .before .before .before .args .list)) (now (c .before .before .before .before .before .before .before .before .before .args .tiles)) (now (c .before .before .before .before .before .before .before .before .before .args .bytes)) (c .before .before .before .before .bar .result) (c .before .before .before .before .bar .ensures) (c .before .before .before .if1 .left))
 
 part-fetch-start-2 : tie.Need-part-fetch-start-2
-part-fetch-start-2 c = let f = fits _ (now (c .before .before .before .before .before .before .before .before .before .args .list)) (now (c .before .before .before .before .before .before .before .before .before .args .tiles)) (now (c .before .before .before .before .before .before .before .before .before .args .bytes)) _ (c .before .before .before .before .bar .ensures) (c .before .before .before .if1 .left) in omega (arith, f .one, f .lists, f .tiled, f .starts, f .room)
+part-fetch-start-2 c = omega (arith, fits (c .before .before .before .before .before .before .before .before .before .args .owner) (now (c .before .before .before .before .before .before .before .before .before .args .list)) (now (c .before .before .before .before .before .before .before .before .before .args .tiles)) (now (c .before .before .before .before .before .before .before .before .before .args .bytes)) (c .before .before .before .before .bar .result) (c .before .before .before .before .bar .ensures) (c .before .before .before .if1 .left))
 
 part-fetch-end-2 : tie.Need-part-fetch-end-2
-part-fetch-end-2 c = let f = fits _ (now (c .before .before .before .before .before .before .before .before .before .args .list)) (now (c .before .before .before .before .before .before .before .before .before .args .tiles)) (now (c .before .before .before .before .before .before .before .before .before .args .bytes)) _ (c .before .before .before .before .bar .ensures) (c .before .before .before .if1 .left) in omega (arith, f .one, f .lists, f .tiled, f .starts, f .room)
+part-fetch-end-2 c = omega (arith, fits (c .before .before .before .before .before .before .before .before .before .args .owner) (now (c .before .before .before .before .before .before .before .before .before .args .list)) (now (c .before .before .before .before .before .before .before .before .before .args .tiles)) (now (c .before .before .before .before .before .before .before .before .before .args .bytes)) (c .before .before .before .before .bar .result) (c .before .before .before .before .bar .ensures) (c .before .before .before .if1 .left))
 
 sub-fetch-3 : tie.Need-sub-fetch-3
-sub-fetch-3 c = let f = fits _ (now (c .before .before .before .before .before .before .before .before .before .before .args .list)) (now (c .before .before .before .before .before .before .before .before .before .before .args .tiles)) (now (c .before .before .before .before .before .before .before .before .before .before .args .bytes)) _ (c .before .before .before .before .before .bar .ensures) (c .before .before .before .before .if1 .left) in omega (arith, f .one, f .lists, f .tiled, f .starts, f .room)
+sub-fetch-3 c = omega (arith, fits (c .before .before .before .before .before .before .before .before .before .before .args .owner) (now (c .before .before .before .before .before .before .before .before .before .before .args .list)) (now (c .before .before .before .before .before .before .before .before .before .before .args .tiles)) (now (c .before .before .before .before .before .before .before .before .before .before .args .bytes)) (c .before .before .before .before .before .bar .result) (c .before .before .before .before .before .bar .ensures) (c .before .before .before .before .if1 .left))
 
 part-fetch-start-3 : tie.Need-part-fetch-start-3
-part-fetch-start-3 c = let f = fits _ (now (c .before .before .before .before .before .before .before .before .before .before .args .list)) (now (c .before .before .before .before .before .before .before .before .before .before .args .tiles)) (now (c .before .before .before .before .before .before .before .before .before .before .args .bytes)) _ (c .before .before .before .before .before .bar .ensures) (c .before .before .before .before .if1 .left) in omega (arith, f .one, f .lists, f .tiled, f .starts, f .room)
+part-fetch-start-3 c = omega (arith, fits (c .before .before .before .before .before .before .before .before .before .before .args .owner) (now (c .before .before .before .before .before .before .before .before .before .before .args .list)) (now (c .before .before .before .before .before .before .before .before .before .before .args .tiles)) (now (c .before .before .before .before .before .before .before .before .before .before .args .bytes)) (c .before .before .before .before .before .bar .result) (c .before .before .before .before .before .bar .ensures) (c .before .before .before .before .if1 .left))
 
 part-fetch-end-3 : tie.Need-part-fetch-end-3
-part-fetch-end-3 c = let f = fits _ (now (c .before .before .before .before .before .before .before .before .before .before .args .list)) (now (c .before .before .before .before .before .before .before .before .before .before .args .tiles)) (now (c .before .before .before .before .before .before .before .before .before .before .args .bytes)) _ (c .before .before .before .before .before .bar .ensures) (c .before .before .before .before .if1 .left) in omega (arith, f .one, f .lists, f .tiled, f .starts, f .room)
+part-fetch-end-3 c = omega (arith, fits (c .before .before .before .before .before .before .before .before .before .before .args .owner) (now (c .before .before .before .before .before .before .before .before .before .before .args .list)) (now (c .before .before .before .before .before .before .before .before .before .before .args .tiles)) (now (c .before .before .before .before .before .before .before .before .before .before .args .bytes)) (c .before .before .before .before .before .bar .result) (c .before .before .before .before .before .bar .ensures) (c .before .before .before .before .if1 .left))
 
 fetch-requires : tie.Need-fetch-requires
 fetch-requires c κs = search needs
 
 same-length : tie.Need-same-length
-same-length c = search needs
+same-length c = c .before .before .fetch .kept .1 .1 .1 .1 .1 .0
 
 returns-2 : tie.Need-returns-2
 unfolding fetchFor
-returns-2 c = rw (← c .before .before .before .before .before .before .before .before .before .before .bar .ensures, eq-eqb (c .before .before .before .before .before .before .before .before .before .before .bar .result) 0 (c .before .before .before .before .before .before .before .before .before .if1 .left)) (rw (minus-is (1 + (c .before .before .before .before .before .before .before .before .before .before .before .before .before .before .before .args .owner) * 34) 34, minus-is ((c .before .before .before .before .before .before .before .before .before .before .before .before .before .before .before .args .owner) * 32) 32, minus-is (startFor (c .before .before .before .before .before .before .before .before .before .before .before .before .before .before .before .args .owner) (now (c .before .before .before .before .before .before .before .before .before .before .before .before .before .before .before .args .list))) (quotaOf (c .before .before .before .before .before .before .before .before .before .before .before .before .before .before .before .args .owner) (now (c .before .before .before .before .before .before .before .before .before .before .before .before .before .before .before .args .list)))) at (c .before .before .fetch .ensures))
+returns-2 c = rw (← c .before .before .before .before .before .before .before .before .before .before .bar .ensures, eq-eqb (c .before .before .before .before .before .before .before .before .before .before .bar .result) 0 (c .before .before .before .before .before .before .before .before .before .if1 .left)) (c .before .before .fetch .ensures ∙ own-parts (λ (l t b : List ℕ). fetchOf 32 l t b (c .before .before .before .before .before .before .before .before .before .before .before .before .before .before .before .args .tile) (now (c .before .before .before .before .before .before .before .before .before .before .before .before .before .before .before .args .out))) (now (c .before .before .before .before .before .before .before .before .before .before .before .before .before .before .before .args .list)) (now (c .before .before .before .before .before .before .before .before .before .before .before .before .before .before .before .args .tiles)) (now (c .before .before .before .before .before .before .before .before .before .before .before .before .before .before .before .args .bytes)) (1 + (c .before .before .before .before .before .before .before .before .before .before .before .before .before .before .before .args .owner) * 34) ((c .before .before .before .before .before .before .before .before .before .before .before .before .before .before .before .args .owner) * 32) (startFor (c .before .before .before .before .before .before .before .before .before .before .before .before .before .before .before .args .owner) (now (c .before .before .before .before .before .before .before .before .before .before .before .before .before .before .before .args .list))) (quotaOf (c .before .before .before .before .before .before .before .before .before .before .before .before .before .before .before .args .owner) (now (c .before .before .before .before .before .before .before .before .before .before .before .before .before .before .before .args .list))))
 
 pub fetch-spec : {M : Type 1} → statement M
 fetch-spec =

@@ -1,5 +1,6 @@
 -- Generated from the answers file beside it by tools/prove/prove.py: edit that.
 -- `owners::put` meets its contract.
+use mathlib.Core.Path.{refl}
 use Prim.Native.Nat.{ℕ, _+_, _*_}
 use native.Mathlib.Omega.{arith}
 use borrow.Author.Needs.{needs}
@@ -8,7 +9,7 @@ use mathlib.Core.List.{List}
 use borrow.Author.Tests.{eq-eqb, ne-eqb}
 use Rattle.storemap.specs.Store.{putOf}
 use Rattle.ownermap.specs.Owners.{quotaOf, startFor, barred, putFor}
-use Rattle.owners.proofs.Fits.{Fits, fits, put-back}
+use Rattle.owners.proofs.Fits.{fits, put-back}
 use Rattle.owners.proofs.put.Statement.{statement}
 use Rattle.owners.proofs.put.Tie as tie
 
@@ -19,92 +20,92 @@ refused-requires : tie.Need-refused-requires
 refused-requires c κs = search needs
 
 same-length : tie.Need-same-length
-same-length c = search needs
+same-length c = refl
 
 same-length-2 : tie.Need-same-length-2
-same-length-2 c = search needs
+same-length-2 c = refl
 
 same-length-3 : tie.Need-same-length-3
-same-length-3 c = search needs
+same-length-3 c = refl
 
 returns : tie.Need-returns
 unfolding putFor
 returns c = rw (← c .before .before .bar .ensures, ne-eqb (c .before .before .bar .result) 0 (c .before .if1 .taken), c .refused .ensures)
 
 mul-a : tie.Need-mul-a
-mul-a c = let f = fits _ (now (c .before .before .before .before .before .before .before .before .before .args .list)) (now (c .before .before .before .before .before .before .before .before .before .args .tiles)) (now (c .before .before .before .before .before .before .before .before .before .args .bytes)) _ (c .before .bar .ensures) (c .if1 .left) in omega (arith, f .one, f .lists, f .tiled, f .starts, f .room)
+mul-a c = omega (arith, fits (c .before .before .before .before .before .before .before .before .before .args .owner) (now (c .before .before .before .before .before .before .before .before .before .args .list)) (now (c .before .before .before .before .before .before .before .before .before .args .tiles)) (now (c .before .before .before .before .before .before .before .before .before .args .bytes)) (c .before .bar .result) (c .before .bar .ensures) (c .if1 .left))
 
 add-a : tie.Need-add-a
-add-a c = let f = fits _ (now (c .before .before .before .before .before .before .before .before .before .args .list)) (now (c .before .before .before .before .before .before .before .before .before .args .tiles)) (now (c .before .before .before .before .before .before .before .before .before .args .bytes)) _ (c .before .bar .ensures) (c .if1 .left) in omega (arith, f .one, f .lists, f .tiled, f .starts, f .room)
+add-a c = omega (arith, fits (c .before .before .before .before .before .before .before .before .before .args .owner) (now (c .before .before .before .before .before .before .before .before .before .args .list)) (now (c .before .before .before .before .before .before .before .before .before .args .tiles)) (now (c .before .before .before .before .before .before .before .before .before .args .bytes)) (c .before .bar .result) (c .before .bar .ensures) (c .if1 .left))
 
 add-e : tie.Need-add-e
-add-e c = let f = fits _ (now (c .before .before .before .before .before .before .before .before .before .args .list)) (now (c .before .before .before .before .before .before .before .before .before .args .tiles)) (now (c .before .before .before .before .before .before .before .before .before .args .bytes)) _ (c .before .bar .ensures) (c .if1 .left) in omega (arith, f .one, f .lists, f .tiled, f .starts, f .room)
+add-e c = omega (arith, fits (c .before .before .before .before .before .before .before .before .before .args .owner) (now (c .before .before .before .before .before .before .before .before .before .args .list)) (now (c .before .before .before .before .before .before .before .before .before .args .tiles)) (now (c .before .before .before .before .before .before .before .before .before .args .bytes)) (c .before .bar .result) (c .before .bar .ensures) (c .if1 .left))
 
 mul-b : tie.Need-mul-b
-mul-b c = let f = fits _ (now (c .before .before .before .before .before .before .before .before .before .args .list)) (now (c .before .before .before .before .before .before .before .before .before .args .tiles)) (now (c .before .before .before .before .before .before .before .before .before .args .bytes)) _ (c .before .bar .ensures) (c .if1 .left) in omega (arith, f .one, f .lists, f .tiled, f .starts, f .room)
+mul-b c = omega (arith, fits (c .before .before .before .before .before .before .before .before .before .args .owner) (now (c .before .before .before .before .before .before .before .before .before .args .list)) (now (c .before .before .before .before .before .before .before .before .before .args .tiles)) (now (c .before .before .before .before .before .before .before .before .before .args .bytes)) (c .before .bar .result) (c .before .bar .ensures) (c .if1 .left))
 
 add-f : tie.Need-add-f
-add-f c = let f = fits _ (now (c .before .before .before .before .before .before .before .before .before .args .list)) (now (c .before .before .before .before .before .before .before .before .before .args .tiles)) (now (c .before .before .before .before .before .before .before .before .before .args .bytes)) _ (c .before .bar .ensures) (c .if1 .left) in omega (arith, f .one, f .lists, f .tiled, f .starts, f .room)
+add-f c = omega (arith, fits (c .before .before .before .before .before .before .before .before .before .args .owner) (now (c .before .before .before .before .before .before .before .before .before .args .list)) (now (c .before .before .before .before .before .before .before .before .before .args .tiles)) (now (c .before .before .before .before .before .before .before .before .before .args .bytes)) (c .before .bar .result) (c .before .bar .ensures) (c .if1 .left))
 
 slice-read-at : tie.Need-slice-read-at
-slice-read-at c = let f = fits _ (now (c .before .before .before .before .before .before .before .before .before .before .args .list)) (now (c .before .before .before .before .before .before .before .before .before .before .args .tiles)) (now (c .before .before .before .before .before .before .before .before .before .before .args .bytes)) _ (c .before .before .bar .ensures) (c .before .if1 .left) in omega (arith, f .one, f .lists, f .tiled, f .starts, f .room)
+slice-read-at c = omega (arith, fits (c .before .before .before .before .before .before .before .before .before .before .args .owner) (now (c .before .before .before .before .before .before .before .before .before .before .args .list)) (now (c .before .before .before .before .before .before .before .before .before .before .args .tiles)) (now (c .before .before .before .before .before .before .before .before .before .before .args .bytes)) (c .before .before .bar .result) (c .before .before .bar .ensures) (c .before .if1 .left))
 
 mul-at : tie.Need-mul-at
-mul-at c = let f = fits _ (now (c .before .before .before .before .before .before .before .before .before .before .args .list)) (now (c .before .before .before .before .before .before .before .before .before .before .args .tiles)) (now (c .before .before .before .before .before .before .before .before .before .before .args .bytes)) _ (c .before .before .bar .ensures) (c .before .if1 .left) in omega (arith, f .one, f .lists, f .tiled, f .starts, f .room)
+mul-at c = omega (arith, fits (c .before .before .before .before .before .before .before .before .before .before .args .owner) (now (c .before .before .before .before .before .before .before .before .before .before .args .list)) (now (c .before .before .before .before .before .before .before .before .before .before .args .tiles)) (now (c .before .before .before .before .before .before .before .before .before .before .args .bytes)) (c .before .before .bar .result) (c .before .before .bar .ensures) (c .before .if1 .left))
 
 mul-end : tie.Need-mul-end
-mul-end c = let f = fits _ (now (c .before .before .before .before .before .before .before .before .before .before .args .list)) (now (c .before .before .before .before .before .before .before .before .before .before .args .tiles)) (now (c .before .before .before .before .before .before .before .before .before .before .args .bytes)) _ (c .before .before .bar .ensures) (c .before .if1 .left) in omega (arith, f .one, f .lists, f .tiled, f .starts, f .room)
+mul-end c = omega (arith, fits (c .before .before .before .before .before .before .before .before .before .before .args .owner) (now (c .before .before .before .before .before .before .before .before .before .before .args .list)) (now (c .before .before .before .before .before .before .before .before .before .before .args .tiles)) (now (c .before .before .before .before .before .before .before .before .before .before .args .bytes)) (c .before .before .bar .result) (c .before .before .bar .ensures) (c .before .if1 .left))
 
 slice-read-end : tie.Need-slice-read-end
-slice-read-end c = let f = fits _ (now (c .before .before .before .before .before .before .before .before .before .before .before .args .list)) (now (c .before .before .before .before .before .before .before .before .before .before .before .args .tiles)) (now (c .before .before .before .before .before .before .before .before .before .before .before .args .bytes)) _ (c .before .before .before .bar .ensures) (c .before .before .if1 .left) in omega (arith, f .one, f .lists, f .tiled, f .starts, f .room)
+slice-read-end c = omega (arith, fits (c .before .before .before .before .before .before .before .before .before .before .before .args .owner) (now (c .before .before .before .before .before .before .before .before .before .before .before .args .list)) (now (c .before .before .before .before .before .before .before .before .before .before .before .args .tiles)) (now (c .before .before .before .before .before .before .before .before .before .before .before .args .bytes)) (c .before .before .before .bar .result) (c .before .before .before .bar .ensures) (c .before .before .if1 .left))
 
 add-end : tie.Need-add-end
-add-end c = let f = fits _ (now (c .before .before .before .before .before .before .before .before .before .before .before .args .list)) (now (c .before .before .before .before .before .before .before .before .before .before .before .args .tiles)) (now (c .before .before .before .before .before .before .before .before .before .before .before .args .bytes)) _ (c .before .before .before .bar .ensures) (c .before .before .if1 .left) in omega (arith, f .one, f .lists, f .tiled, f .starts, f .room)
+add-end c = omega (arith, fits (c .before .before .before .before .before .before .before .before .before .before .before .args .owner) (now (c .before .before .before .before .before .before .before .before .before .before .before .args .list)) (now (c .before .before .before .before .before .before .before .before .before .before .before .args .tiles)) (now (c .before .before .before .before .before .before .before .before .before .before .before .args .bytes)) (c .before .before .before .bar .result) (c .before .before .before .bar .ensures) (c .before .before .if1 .left))
 
 mul-put : tie.Need-mul-put
-mul-put c = let f = fits _ (now (c .before .before .before .before .before .before .before .before .before .before .before .args .list)) (now (c .before .before .before .before .before .before .before .before .before .before .before .args .tiles)) (now (c .before .before .before .before .before .before .before .before .before .before .before .args .bytes)) _ (c .before .before .before .bar .ensures) (c .before .before .if1 .left) in omega (arith, f .one, f .lists, f .tiled, f .starts, f .room)
+mul-put c = omega (arith, fits (c .before .before .before .before .before .before .before .before .before .before .before .args .owner) (now (c .before .before .before .before .before .before .before .before .before .before .before .args .list)) (now (c .before .before .before .before .before .before .before .before .before .before .before .args .tiles)) (now (c .before .before .before .before .before .before .before .before .before .before .before .args .bytes)) (c .before .before .before .bar .result) (c .before .before .before .bar .ensures) (c .before .before .if1 .left))
 
 sub-put : tie.Need-sub-put
-sub-put c = let f = fits _ (now (c .before .before .before .before .before .before .before .before .before .before .before .args .list)) (now (c .before .before .before .before .before .before .before .before .before .before .before .args .tiles)) (now (c .before .before .before .before .before .before .before .before .before .before .before .args .bytes)) _ (c .before .before .before .bar .ensures) (c .before .before .if1 .left) in omega (arith, f .one, f .lists, f .tiled, f .starts, f .room)
+sub-put c = omega (arith, fits (c .before .before .before .before .before .before .before .before .before .before .before .args .owner) (now (c .before .before .before .before .before .before .before .before .before .before .before .args .list)) (now (c .before .before .before .before .before .before .before .before .before .before .before .args .tiles)) (now (c .before .before .before .before .before .before .before .before .before .before .before .args .bytes)) (c .before .before .before .bar .result) (c .before .before .before .bar .ensures) (c .before .before .if1 .left))
 
 part-put-start : tie.Need-part-put-start
-part-put-start c = let f = fits _ (now (c .before .before .before .before .before .before .before .before .before .before .before .args .list)) (now (c .before .before .before .before .before .before .before .before .before .before .before .args .tiles)) (now (c .before .before .before .before .before .before .before .before .before .before .before .args .bytes)) _ (c .before .before .before .bar .ensures) (c .before .before .if1 .left) in omega (arith, f .one, f .lists, f .tiled, f .starts, f .room)
+part-put-start c = omega (arith, fits (c .before .before .before .before .before .before .before .before .before .before .before .args .owner) (now (c .before .before .before .before .before .before .before .before .before .before .before .args .list)) (now (c .before .before .before .before .before .before .before .before .before .before .before .args .tiles)) (now (c .before .before .before .before .before .before .before .before .before .before .before .args .bytes)) (c .before .before .before .bar .result) (c .before .before .before .bar .ensures) (c .before .before .if1 .left))
 
 part-put-end : tie.Need-part-put-end
-part-put-end c = let f = fits _ (now (c .before .before .before .before .before .before .before .before .before .before .before .args .list)) (now (c .before .before .before .before .before .before .before .before .before .before .before .args .tiles)) (now (c .before .before .before .before .before .before .before .before .before .before .before .args .bytes)) _ (c .before .before .before .bar .ensures) (c .before .before .if1 .left) in omega (arith, f .one, f .lists, f .tiled, f .starts, f .room)
+part-put-end c = omega (arith, fits (c .before .before .before .before .before .before .before .before .before .before .before .args .owner) (now (c .before .before .before .before .before .before .before .before .before .before .before .args .list)) (now (c .before .before .before .before .before .before .before .before .before .before .before .args .tiles)) (now (c .before .before .before .before .before .before .before .before .before .before .before .args .bytes)) (c .before .before .before .bar .result) (c .before .before .before .bar .ensures) (c .before .before .if1 .left))
 
 mul-put-2 : tie.Need-mul-put-2
-mul-put-2 c = let f = fits _ (now (c .before .before .before .before .before .before .before .before .before .before .before .before .args .list)) (now (c .before .before .before .before .before .before .before .before .before .before .before .before .args .tiles)) (now (c .before .before .before .before .before .before .before .before .before .before .before .before .args .bytes)) _ (c .before .before .before .before .bar .ensures) (c .before .before .before .if1 .left) in omega (arith, f .one, f .lists, f .tiled, f .starts, f .room)
+mul-put-2 c = omega (arith, fits (c .before .before .before .before .before .before .before .before .before .before .before .before .args .owner) (now (c .before .before .before .before .before .before .before .before .before .before .before .before .args .list)) (now (c .before .before .before .before .before .before .before .before .before .before .before .before .args .tiles)) (now (c .before .before .before .before .before .before .before .before .before .before .before .before .args .bytes)) (c .before .before .before .before .bar .result) (c .before .before .before .before .bar .ensures) (c .before .before .before .if1 .left))
 
 sub-put-2 : tie.Need-sub-put-2
-sub-put-2 c = let f = fits _ (now (c .before .before .before .before .before .before .before .before .before .before .before .before .args .list)) (now (c .before .before .before .before .before .before .before .before .before .before .before .before .args .tiles)) (now (c .before .before .before .before .before .before .before .before .before .before .before .before .args .bytes)) _ (c .before .before .before .before .bar .ensures) (c .before .before .before .if1 .left) in omega (arith, f .one, f .lists, f .tiled, f .starts, f .room)
+sub-put-2 c = omega (arith, fits (c .before .before .before .before .before .before .before .before .before .before .before .before .args .owner) (now (c .before .before .before .before .before .before .before .before .before .before .before .before .args .list)) (now (c .before .before .before .before .before .before .before .before .before .before .before .before .args .tiles)) (now (c .before .before .before .before .before .before .before .before .before .before .before .before .args .bytes)) (c .before .before .before .before .bar .result) (c .before .before .before .before .bar .ensures) (c .before .before .before .if1 .left))
 
 part-put-start-2 : tie.Need-part-put-start-2
-part-put-start-2 c = let f = fits _ (now (c .before .before .before .before .before .before .before .before .before .before .before .before .args .list)) (now (c .before .before .before .before .before .before .before .before .before .before .before .before .args .tiles)) (now (c .before .before .before .before .before .before .before .before .before .before .before .before .args .bytes)) _ (c .before .before .before .before .bar .ensures) (c .before .before .before .if1 .left) in omega (arith, f .one, f .lists, f .tiled, f .starts, f .room)
+part-put-start-2 c = omega (arith, fits (c .before .before .before .before .before .before .before .before .before .before .before .before .args .owner) (now (c .before .before .before .before .before .before .before .before .before .before .before .before .args .list)) (now (c .before .before .before .before .before .before .before .before .before .before .before .before .args .tiles)) (now (c .before .before .before .before .before .before .before .before .before .before .before .before .args .bytes)) (c .before .before .before .before .bar .result) (c .before .before .before .before .bar .ensures) (c .before .before .before .if1 .left))
 
 part-put-end-2 : tie.Need-part-put-end-2
-part-put-end-2 c = let f = fits _ (now (c .before .before .before .before .before .before .before .before .before .before .before .before .args .list)) (now (c .before .before .before .before .before .before .before .before .before .before .before .before .args .tiles)) (now (c .before .before .before .before .before .before .before .before .before .before .before .before .args .bytes)) _ (c .before .before .before .before .bar .ensures) (c .before .before .before .if1 .left) in omega (arith, f .one, f .lists, f .tiled, f .starts, f .room)
+part-put-end-2 c = omega (arith, fits (c .before .before .before .before .before .before .before .before .before .before .before .before .args .owner) (now (c .before .before .before .before .before .before .before .before .before .before .before .before .args .list)) (now (c .before .before .before .before .before .before .before .before .before .before .before .before .args .tiles)) (now (c .before .before .before .before .before .before .before .before .before .before .before .before .args .bytes)) (c .before .before .before .before .bar .result) (c .before .before .before .before .bar .ensures) (c .before .before .before .if1 .left))
 
 sub-put-3 : tie.Need-sub-put-3
-sub-put-3 c = let f = fits _ (now (c .before .before .before .before .before .before .before .before .before .before .before .before .before .args .list)) (now (c .before .before .before .before .before .before .before .before .before .before .before .before .before .args .tiles)) (now (c .before .before .before .before .before .before .before .before .before .before .before .before .before .args .bytes)) _ (c .before .before .before .before .before .bar .ensures) (c .before .before .before .before .if1 .left) in omega (arith, f .one, f .lists, f .tiled, f .starts, f .room)
+sub-put-3 c = omega (arith, fits (c .before .before .before .before .before .before .before .before .before .before .before .before .before .args .owner) (now (c .before .before .before .before .before .before .before .before .before .before .before .before .before .args .list)) (now (c .before .before .before .before .before .before .before .before .before .before .before .before .before .args .tiles)) (now (c .before .before .before .before .before .before .before .before .before .before .before .before .before .args .bytes)) (c .before .before .before .before .before .bar .result) (c .before .before .before .before .before .bar .ensures) (c .before .before .before .before .if1 .left))
 
 part-put-start-3 : tie.Need-part-put-start-3
-part-put-start-3 c = let f = fits _ (now (c .before .before .before .before .before .before .before .before .before .before .before .before .before .args .list)) (now (c .before .before .before .before .before .before .before .before .before .before .before .before .before .args .tiles)) (now (c .before .before .before .before .before .before .before .before .before .before .before .before .before .args .bytes)) _ (c .before .before .before .before .before .bar .ensures) (c .before .before .before .before .if1 .left) in omega (arith, f .one, f .lists, f .tiled, f .starts, f .room)
+part-put-start-3 c = omega (arith, fits (c .before .before .before .before .before .before .before .before .before .before .before .before .before .args .owner) (now (c .before .before .before .before .before .before .before .before .before .before .before .before .before .args .list)) (now (c .before .before .before .before .before .before .before .before .before .before .before .before .before .args .tiles)) (now (c .before .before .before .before .before .before .before .before .before .before .before .before .before .args .bytes)) (c .before .before .before .before .before .bar .result) (c .before .before .before .before .before .bar .ensures) (c .before .before .before .before .if1 .left))
 
 part-put-end-3 : tie.Need-part-put-end-3
-part-put-end-3 c = let f = fits _ (now (c .before .before .before .before .before .before .before .before .before .before .before .before .before .args .list)) (now (c .before .before .before .before .before .before .before .before .before .before .before .before .before .args .tiles)) (now (c .before .before .before .before .before .before .before .before .before .before .before .before .before .args .bytes)) _ (c .before .before .before .before .before .bar .ensures) (c .before .before .before .before .if1 .left) in omega (arith, f .one, f .lists, f .tiled, f .starts, f .room)
+part-put-end-3 c = omega (arith, fits (c .before .before .before .before .before .before .before .before .before .before .before .before .before .args .owner) (now (c .before .before .before .before .before .before .before .before .before .before .before .before .before .args .list)) (now (c .before .before .before .before .before .before .before .before .before .before .before .before .before .args .tiles)) (now (c .before .before .before .before .before .before .before .before .before .before .before .before .before .args .bytes)) (c .before .before .before .before .before .bar .result) (c .before .before .before .before .before .bar .ensures) (c .before .before .before .before .if1 .left))
 
 put-requires : tie.Need-put-requires
 put-requires c κs = search needs
 
 same-length-4 : tie.Need-same-length-4
-same-length-4 c = search needs
+same-length-4 c = c .before .before .before .before .before .list .given .1
 
 same-length-5 : tie.Need-same-length-5
-same-length-5 c = search needs
+same-length-5 c = c .before .before .before .tiles .given .1
 
 same-length-6 : tie.Need-same-length-6
-same-length-6 c = search needs
+same-length-6 c = c .before .bytes .given .1
 
 returns-2 : tie.Need-returns-2
 unfolding putFor

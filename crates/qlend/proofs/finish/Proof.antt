@@ -3,7 +3,7 @@
 use native.Mathlib.Omega.{arith}
 use borrow.Author.Needs.{needs}
 use borrow.Author.Tests.{eq-eqb, ne-eqb}
-use Rattle.qlend.specs.QlEnd.{finished}
+use Rattle.qlend.specs.QlEnd.{qlFinished}
 use Rattle.qlend.proofs.finish.Statement.{statement}
 use Rattle.qlend.proofs.finish.Tie as tie
 
@@ -11,14 +11,14 @@ answered-requires : tie.Need-answered-requires
 answered-requires c κs = search needs
 
 returns : tie.Need-returns
-unfolding finished
+unfolding qlFinished
 returns c = λ e. rw (eq-eqb _ _ (c .before .if1 .taken), c .answered .ensures)
 
 answered-requires-2 : tie.Need-answered-requires-2
 answered-requires-2 c κs = search needs
 
 returns-2 : tie.Need-returns-2
-unfolding finished
+unfolding qlFinished
 returns-2 c = λ e. rw (ne-eqb _ _ (c .before .before .before .if1 .left), ne-eqb _ _ (c .before .if2 .taken), c .answered2 .ensures)
 
 mark2-requires : tie.Need-mark2-requires
@@ -37,7 +37,7 @@ same-length-2 : tie.Need-same-length-2
 same-length-2 c = omega arith
 
 returns-3 : tie.Need-returns-3
-unfolding finished
+unfolding qlFinished
 returns-3 c = λ e. rw (ne-eqb _ _ (c .before .before .before .before .before .before .before .before .if1 .left), eq-eqb _ _ (c .before .before .before .before .before .before .if2 .left), ← c .before .before .before .mark2 .ensures, ← c .before .before .is-bad .ensures, c .before .if3 .taken, c .marked .ensures)
 
 sort-requires : tie.Need-sort-requires
@@ -53,7 +53,7 @@ same-length-4 : tie.Need-same-length-4
 same-length-4 c = omega arith
 
 returns-4 : tie.Need-returns-4
-unfolding finished
+unfolding qlFinished
 returns-4 c = λ e. rw (ne-eqb _ _ (c .before .before .before .before .before .before .before .before .before .before .before .before .before .before .before .if1 .left), eq-eqb _ _ (c .before .before .before .before .before .before .before .before .before .before .before .before .before .if2 .left), ← c .before .before .before .before .before .before .before .before .before .before .mark2 .ensures, ← c .before .before .before .before .before .before .before .before .before .is-bad .ensures, c .before .before .before .before .before .before .before .before .if3 .left, ← c .before .before .before .before .before .sort .ensures, c .done .ensures)
 
 pub finish-spec : {M : Type 1} → statement M
