@@ -1,5 +1,5 @@
 /*
- * Crewelmarsh: dense linear algebra for a codec. C99 and C++.
+ * Crewelmarsh: dense linear algebra for a codec. C99 and C++. MIT licence; LICENSE and NOTICE go with every copy.
  *
  * Five entries, each taking sizes, flags and arrays of double and giving back four numbers:
  *
@@ -7,7 +7,7 @@
  *     crewelmarsh_svd               singular values, U and V^T of any matrix
  *     crewelmarsh_solve             least squares by an svd
  *     crewelmarsh_pseudo_inverse    the pseudo-inverse by an svd
- *     crewelmarsh_qr_q              an orthonormal basis of the columns
+ *     crewelmarsh_qr_q              the columns made orthonormal, from left to right
  *
  * crewelmarsh_eigen_start, _step and _finish are the first one in pieces, one QL pass at a time, for a program that has
  * other work waiting (see ONE PASS AT A TIME below).
@@ -105,9 +105,10 @@
  * Squares and products of the numbers are formed. Where the largest magnitude in a matrix lies outside
  * 2^-250 to 2^250 (about 1e-75 to 1e75) they may overflow or vanish: then mostly the answer is 8, 9 or 10, but
  * also 0 with numbers that are the defined ones and yet no eigenvectors or singular vectors (found by
- * trying: symmetric_eigen below about 2^-515, svd above about 2^252). Multiply such a matrix by a power of
- * two first, and the values by its inverse afterwards; the vectors stay. The same can befall a part of a
- * matrix that is so small by itself, beside numbers near 1: set to 0 what is that far below the largest.
+ * trying: symmetric_eigen below about 2^-515 and near the largest double, svd above about 2^252 and below
+ * about 2^-537; docs/FINDINGS.md has inputs). Multiply such a matrix by a power of two first, and the values
+ * by its inverse afterwards; the vectors stay. The same can befall a part of a matrix that is so small by
+ * itself, beside numbers near 1: set to 0 what is that far below the largest.
  *
  * What svd promises: every number of a matrix may be multiplied by 2^k, k above or below 0, sizes, flags, limit and
  * lengths being equal. If in both calls each number given or computed is zero, or finite and above 2^-1022 in
@@ -424,10 +425,11 @@ static inline const char *crewelmarsh_text(size_t answer)
 
 /*
  * Lengths, in numbers. Where a dimension is over 256 each gives 0, so that nothing overflows and
- * nothing is allocated: pass the 0 on, and the call answers 1.
+ * nothing is allocated: pass the 0 on, and the call refuses it (1; 15 where it is the k of lanczos, 25 where it is
+ * the number of samples).
  *
- * The most that any of them gives is 198,144 (the work of lanczos where k is 118 to 256 of 256); else 131,328 (the work or the
- * result of an svd of 256 by 256).
+ * Of doubles the most that any of them gives is 198,144 (the work of lanczos where k is 118 to 256 of 256); else 131,328 (the
+ * work or the result of an svd of 256 by 256). Of samples it is 16,777,216 (256 bands of 65,536).
  *
  * Each is there twice: as a macro for the length of an array that is declared, where the dimensions are
  * constants (it may evaluate an argument several times, and has no meaning in #if), and as a function.
@@ -659,8 +661,8 @@ struct crewelmarsh_answer crewelmarsh_lanczos(
  *     run = crewelmarsh_eigen_finish(run, work, n, result, n + n * n);
  *     if (run.answer.answer != CREWELMARSH_DONE) ...
  *
- * A step costs one pass: at n = 256 some 0.1 ms of a run of 30 ms (docs/BENCHMARKS.md). The start costs more, since the
- * reduction is not divided: about a third of the run. The finish looks once at each number, and sorts: 0.5 ms.
+ * A step costs one pass: at n = 256 up to 0.06 ms of a run of some 20 ms (docs/BENCHMARKS.md). The start costs more, since the
+ * reduction is not divided: a quarter of the run or more. The finish looks once at each number, and sorts: 0.15 ms.
  *
  * While a run goes on its stop is 0, and e, d and v stand in work, at the front of the result and behind it. What symmetric_eigen says of the arrays on 0
  * holds from the finish on. When a call ends the run (stop is not 0 then), it also fills the arrays as symmetric_eigen does.
@@ -858,12 +860,14 @@ struct crewelmarsh_answer crewelmarsh_pseudo_inverse(
     double *answer, size_t answer_len);
 
 /*
- * An orthonormal basis of the columns of an m by k matrix, from left to right (Gram-Schmidt, twice).
+ * The columns of an m by k matrix made orthonormal, from left to right (Gram-Schmidt, twice).
  *
  * m, k       rows and columns, 0 to 256; k may be above m
  * matrix     m * k, only read
- * answer     m * k. On 0: column j has length 1, or is all +0.0 where what was left of column j after
- *            the columns before it had a length not above 2^-52
+ * answer     m * k. On 0: column j has length 1 up to rounding, or is all +0.0 where what was left of column j
+ *            after the columns before it had a length not above 2^-52. Of a column that depends on those before
+ *            it, as some do where k is above m, rounding is left: where that is longer it gets length 1 too, and
+ *            need not be orthogonal to the others (docs/FINDINGS.md, 9)
  *
  * Answers, count always 0:
  *   0, 1
@@ -1050,8 +1054,9 @@ struct crewelmarsh_answer crewelmarsh_covariance(
  *     bytes   the buffer, as long as at setup: first owner 0's bytes, as many as its quota, then owner 1's. Each has its
  *             blocks and nothing else, one behind the other
  *
- * They need no old contents before setup. So list[2] and list[36] are how many blocks each holds, and may be read at any
- * time. All arrays may be copied or moved to other memory between two calls.
+ * They need no old contents before setup. (gcc may warn of local arrays that were never written: setup takes tiles and bytes
+ * as const and looks at their lengths alone, and `= {0}` quietens it.) list[2] and list[36] are how many blocks each holds, and
+ * may be read at any time. All arrays may be copied or moved to other memory between two calls.
  *
  * The room of a dropped block is free at once: the owner's blocks behind it move down. So a pointer into the buffer is of no
  * use after a drop. Each call looks the owner's list through first, and then for the tile: less than a microsecond.

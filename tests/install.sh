@@ -1,7 +1,8 @@
 #!/bin/sh
 # install.sh VERSION NAME..: 'make install' and 'make release' in a scratch folder, then what a C codec would do with them: gcc and g++ by
 # pkg-config, cmake, the archive and the shared library, and headers that don't fit. NAME.. are the entries' names in the libraries.
-# Run by 'make install-test'. Needs gcc; says what it didn't try where g++, pkg-config, cmake or nm is missing. Status 1 on a failure.
+# Run by 'make install-test'. Needs gcc for x86-64 (GCC, GXX are other names of it and of g++, RUNNER what its programs run under elsewhere); says what it
+# didn't try where g++, pkg-config, cmake or nm is missing. Status 1 on a failure.
 set -u
 
 version=$1
@@ -10,6 +11,8 @@ major=${version%%.*}
 other=$((major + 1))
 make=${MAKE:-make}
 archive=${ARCHIVE:-dist/libcrewelmarsh.a}
+gcc=${GCC:-gcc} gxx=${GXX:-g++} run=${RUNNER:-}
+export CC="$gcc"
 scratch=$(mktemp -d)
 trap 'rm -rf "$scratch"' EXIT
 checks=0 failed=0 untried=
@@ -47,10 +50,13 @@ same() { [ "$1" = "$2" ] || { printf 'found:  %s\nwanted: %s\n' "$1" "$2"; retur
 files() { (cd "$1" && find . ! -type d | LC_ALL=C sort | sed 's|^\./||' | tr '\n' ' '); }
 quietly() { "$@" >"$scratch/quiet" 2>&1 && [ ! -s "$scratch/quiet" ] || { cat "$scratch/quiet"; return 1; }; }
 
-if [ "$(uname -m)" != x86_64 ] || ! command -v gcc >/dev/null; then
-    echo 'install: not tried, since there is no gcc for x86-64 here'
-    exit 1
-fi
+case $("$gcc" -dumpmachine 2>/dev/null) in
+    x86_64*linux*) ;;
+    *)
+        echo "install: not tried, since $gcc is no gcc for x86-64 here"
+        exit 1
+        ;;
+esac
 
 # ---- what is installed
 
@@ -131,7 +137,7 @@ try() { # try COMPILER STANDARD..
     cc=$1
     shift
     language=c strict='-Wconversion -Wsign-conversion -Wlogical-op -Wshadow -Wundef -Wc++-compat'
-    [ "$cc" = g++ ] && language=c++ strict='-Wconversion -Wsign-conversion -Wlogical-op -Wshadow -Wundef -Wold-style-cast -Wuseless-cast'
+    [ "$cc" = "$gxx" ] && language=c++ strict='-Wconversion -Wsign-conversion -Wlogical-op -Wshadow -Wundef -Wold-style-cast -Wuseless-cast'
     for std; do
         for level in -O0 -O2; do
             flags="-x $language -std=$std $level $warn"
@@ -143,7 +149,7 @@ try() { # try COMPILER STANDARD..
                 check "$cc $std $level: $(basename "$library")" \
                     quietly $cc $flags -I"$scratch/prefix/include" "$scratch/two.c" -x none "$library" -o "$scratch/two"
                 check "$cc $std $level: run with $(basename "$library")" \
-                    same "$(LD_LIBRARY_PATH=$scratch/prefix/lib "$scratch/two")" "$said"
+                    same "$(LD_LIBRARY_PATH=$scratch/prefix/lib $run "$scratch/two")" "$said"
                 for name in $names; do
                     # shellcheck disable=SC2086
                     refused "$cc $std $level: $name of major $other with $(basename "$library")" "${name%_abi*}_abi$other" \
@@ -154,8 +160,8 @@ try() { # try COMPILER STANDARD..
     done
 }
 names=$*
-try gcc c99 c11
-have g++ 'C++' && try g++ c++98 c++17
+try "$gcc" c99 c11
+have "$gxx" 'C++' && try "$gxx" c++98 c++17
 
 # ---- the shared library
 
@@ -173,12 +179,12 @@ if have pkg-config 'crewelmarsh.pc'; then
     export PKG_CONFIG_PATH
     check 'its version' same "$(pkg-config --modversion crewelmarsh)" "$version"
     # shellcheck disable=SC2046
-    check 'gcc by pkg-config' quietly gcc "$scratch/two.c" $(pkg-config --cflags --libs crewelmarsh) -o "$scratch/two"
-    check 'run by pkg-config' same "$(LD_LIBRARY_PATH=$scratch/prefix/lib "$scratch/two")" "$said"
+    check 'gcc by pkg-config' quietly "$gcc" "$scratch/two.c" $(pkg-config --cflags --libs crewelmarsh) -o "$scratch/two"
+    check 'run by pkg-config' same "$(LD_LIBRARY_PATH=$scratch/prefix/lib $run "$scratch/two")" "$said"
     # shellcheck disable=SC2046
-    check 'gcc by pkg-config, the archive' quietly gcc "$scratch/two.c" $(pkg-config --cflags crewelmarsh) \
+    check 'gcc by pkg-config, the archive' quietly "$gcc" "$scratch/two.c" $(pkg-config --cflags crewelmarsh) \
         $(pkg-config --libs-only-L crewelmarsh) -l:libcrewelmarsh.a -o "$scratch/two"
-    check 'run by pkg-config, the archive' same "$("$scratch/two")" "$said"
+    check 'run by pkg-config, the archive' same "$($run "$scratch/two")" "$said"
 fi
 
 # ---- cmake
@@ -200,8 +206,8 @@ END
 }
 if have cmake 'the CMake package'; then
     check 'cmake' project fits "$major" "$scratch/prefix"
-    check 'cmake, the archive' same "$("$scratch/fits/build/two")" "$said"
-    check 'cmake, the shared library' same "$("$scratch/fits/build/two_shared")" "$said"
+    check 'cmake, the archive' same "$($run "$scratch/fits/build/two")" "$said"
+    check 'cmake, the shared library' same "$($run "$scratch/fits/build/two_shared")" "$said"
     check 'cmake, exact version' project exact "$version EXACT" "$scratch/prefix"
     check 'cmake, libraries further down' project down "$major.0" "$scratch/stage/usr"
     refused 'cmake, another major' 'compatible with requested version' project another "$other" "$scratch/prefix"
@@ -225,8 +231,8 @@ check 'BUILT-FROM' grep -q "crewelmarsh $version" "$release/share/doc/crewelmars
 if command -v pkg-config >/dev/null; then
     PKG_CONFIG_PATH=$release/lib/pkgconfig
     # shellcheck disable=SC2046
-    check 'gcc by the release' quietly gcc "$scratch/two.c" $(pkg-config --cflags --libs crewelmarsh) -o "$scratch/two"
-    check 'run by the release' same "$(LD_LIBRARY_PATH=$release/lib "$scratch/two")" "$said"
+    check 'gcc by the release' quietly "$gcc" "$scratch/two.c" $(pkg-config --cflags --libs crewelmarsh) -o "$scratch/two"
+    check 'run by the release' same "$(LD_LIBRARY_PATH=$release/lib $run "$scratch/two")" "$said"
 fi
 
 echo "install: $checks checks, $failed failed${untried:+; not tried:$untried}"

@@ -1,7 +1,7 @@
 # The C side: the archive, the example and the test of the boundary, with the toolchain alone. Programs are
 # x86-64; where the machine is not, the toolchain has an emulator and they run under it.
 #
-#   make archive       dist/libcrewelmarsh.a and dist/crewelmarsh.h
+#   make archive       dist/libcrewelmarsh.a and dist/crewelmarsh.h, with LICENSE and NOTICE
 #   make example       builds and runs examples/codec.c, examples/decoder.c and examples/components.c
 #   make example-test  the same, and what each writes is held to examples/NAME.expected
 #   make parts         the archive, and beside it what the C tests and the examples are linked from
@@ -49,9 +49,10 @@ HEADERS := include/crewelmarsh.h $(wildcard tools/headers/*.h)
 
 .PHONY: archive parts example example-test boundary boundary-names boundary-header boundary-run boundary-list FORCE
 
-archive: dist/libcrewelmarsh.a dist/crewelmarsh.h
+archive: dist/libcrewelmarsh.a dist/crewelmarsh.h dist/LICENSE dist/NOTICE
 
-dist/libcrewelmarsh.a: crates.txt $(CRATE_FILES) | kit
+dist/libcrewelmarsh.a: crates.txt $(CRATE_FILES)
+	@RT='$(RT)' sh tools/kit.sh
 	@[ -e target/stamp/crewelmarsh ] || $(RT) check $(ARCHIVE_USES)
 	$(RT) staticlib crewelmarsh
 	@mkdir -p dist
@@ -60,6 +61,10 @@ dist/libcrewelmarsh.a: crates.txt $(CRATE_FILES) | kit
 dist/crewelmarsh.h: include/crewelmarsh.h
 	@mkdir -p dist
 	cp $< $@
+
+dist/LICENSE dist/NOTICE: dist/%: %
+	@mkdir -p dist
+	@cp $< $@
 
 EXAMPLES := codec decoder components
 

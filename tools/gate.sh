@@ -5,6 +5,7 @@
 set -u
 cd "$(dirname "$0")/.."
 RT=${RT:-rt} MAKE=${MAKE:-make}
+unset MAKEFLAGS MFLAGS MAKEOVERRIDES ARCHIVE # no -n, -i or -t and no other archive reaches the targets
 processors=$(nproc 2>/dev/null || echo 1)
 log=build/gate.log
 began=$(date +%s)
@@ -54,9 +55,8 @@ rest() { # TARGET..
 
 # Nothing of an earlier run is used. A pipe's status is its last command's, so rt's own is kept in a file, and so is that of what runs beside it.
 from=$(date +%s)
-rm -rf build dist
-mkdir build
-edits=$(find crates -name '*.edit' | wc -l) tried=0
+rm -rf build dist && mkdir build || failed 2 "build/ and dist/ can't be made anew"
+rooms=$(grep -c '^[a-z]' crates.txt) edits=$(find crates -name '*.edit' | wc -l) tried=0
 { "$RT" ci 2>&1; echo $? >"$log.status"; } | {
     while IFS= read -r text; do
         printf '%s\n' "$text" >>"$log"
@@ -78,6 +78,7 @@ status=$(cat "$log.status" 2>/dev/null || echo 2)
 line=$(tail -n 1 "$log")
 [ "$status" -eq 0 ] || failed "$status" "rt ci"
 echo "$line" | grep -Eqx '[1-9][0-9]* passed, 0 failed' || failed 1 "rt ci: its last line is not 'N passed, 0 failed'"
+[ "${line%% *}" -eq $((rooms + edits)) ] || failed 1 "rt ci: $line, where there are $rooms rooms and $edits edits"
 passed "rt ci"
 
 cat "$log.rest" 2>/dev/null

@@ -3,7 +3,7 @@
 #   make shared          dist/libcrewelmarsh.so.VERSION, from the archive
 #   make install         archive, shared library, header, pkg-config file, CMake package, LICENSE and NOTICE, under PREFIX
 #   make release         the same files in dist/crewelmarsh-VERSION-x86_64-linux.tar, with checksums and what they were built from
-#   make install-test    all of that tried in a scratch folder with gcc, g++, pkg-config and cmake
+#   make install-test    all of that tried in a scratch folder with gcc, g++, pkg-config and cmake (GCC, GXX and RUNNER elsewhere than on x86-64)
 #
 # PREFIX=/usr/local  where the files will stand; LIB=lib is the libraries' folder in it, of one part or several.
 # DESTDIR=DIR        is put before PREFIX while copying, for making a package.
@@ -34,4 +34,4 @@ release: $(ARCHIVE) $(SHARED)
 	@sh tools/install/release.sh $(RELEASE) $(VERSION) $(ARCHIVE) $(SHARED) "$$($(RT) version)"
 
 install-test: $(ARCHIVE) $(SHARED)
-	@MAKE='$(MAKE)' ARCHIVE='$(ARCHIVE)' sh tests/install.sh $(VERSION) $(ENTRIES)
+	@MAKE='$(MAKE)' ARCHIVE='$(ARCHIVE)' GCC='$(GCC)' GXX='$(GXX)' RUNNER='$(RUNNER)' sh tests/install.sh $(VERSION) $(ENTRIES)

@@ -23,10 +23,10 @@ impl Array1<f64> {
     }
     /// From index 0 on, starting at +0.0, as request 12 has it: ndarray's own sums in eight parts.
     pub fn dot(&self, other: &Self) -> f64 {
-        self.data.iter().zip(&other.data).fold(0.0, |sum, (x, y)| sum + x * y)
+        self.data.iter().zip(&other.data).fold(0.0, |sum, (x, y)| sum + *x * *y)
     }
     pub fn scaled_add(&mut self, by: f64, other: &Self) {
-        self.data.iter_mut().zip(&other.data).for_each(|(x, y)| *x += by * y);
+        self.data.iter_mut().zip(&other.data).for_each(|(x, y)| *x += by * *y);
     }
 }
 
@@ -39,7 +39,7 @@ pub fn matvec(a: &Array2<f64>, x: &Array1<f64>, parallelism: Parallelism) -> Arr
     let Parallelism::Rayon(_) = parallelism;
     assert_eq!(a.strides[1], 1);
     let row = |i: usize| &a.data[i * a.strides[0]..][..a.shape[1]];
-    Array1::from_shape_fn(a.shape[0], |i| row(i).iter().zip(&x.data).fold(0.0, |sum, (x, y)| sum + x * y))
+    Array1::from_shape_fn(a.shape[0], |i| row(i).iter().zip(&x.data).fold(0.0, |sum, (x, y)| sum + *x * *y))
 }
 
 impl DivAssign<f64> for Array1<f64> {

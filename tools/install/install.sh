@@ -12,11 +12,20 @@ fill() {
     sed "s|@PREFIX@|$prefix|; s|@VERSION@|$version|; s|@MAJOR@|$major|; s|@LIB@|$lib|; s|@UP@|$up|" "tools/install/$1.in" >"$2/$1"
 }
 
+# Whatever the caller's umask is, others can read it. A library that a running program has open stays as it is: its name goes to the new one.
+umask 022
+put() { # FILE TO
+    rm -f "$2"
+    cp "$1" "$2"
+    chmod u=rwX,go=rX "$2"
+}
+
 mkdir -p "$root/include" "$root/$lib/pkgconfig" "$root/$lib/cmake/crewelmarsh" "$root/share/doc/crewelmarsh"
-cp include/crewelmarsh.h "$root/include/"
-cp LICENSE NOTICE "$root/share/doc/crewelmarsh/"
-cp "$archive" "$root/$lib/libcrewelmarsh.a"
-cp "$shared" "$root/$lib/libcrewelmarsh.so.$version"
+put include/crewelmarsh.h "$root/include/crewelmarsh.h"
+put LICENSE "$root/share/doc/crewelmarsh/LICENSE"
+put NOTICE "$root/share/doc/crewelmarsh/NOTICE"
+put "$archive" "$root/$lib/libcrewelmarsh.a"
+put "$shared" "$root/$lib/libcrewelmarsh.so.$version"
 ln -sf "libcrewelmarsh.so.$version" "$root/$lib/libcrewelmarsh.so.$major"
 ln -sf "libcrewelmarsh.so.$major" "$root/$lib/libcrewelmarsh.so"
 fill crewelmarsh.pc "$root/$lib/pkgconfig"

@@ -4,6 +4,7 @@
 set -eu
 
 name=$1 version=$2 archive=$3 shared=$4 kit=$5
+[ -n "$kit" ] || { echo 'release: no rt on the path says which kit the archive was built with' >&2; exit 1; }
 folder=$(basename "$name")
 stage=build/release
 docs=$stage/$folder/share/doc/crewelmarsh

@@ -37,7 +37,7 @@ refusal7 Nowhere = done 0
 abbrev pub unlessBad : Bad → Vec → Answer × Vec → Answer × Vec
 unlessBad b x rest = cond (passed (refusal7 b)) rest (emptied (refusal7 b) x)
 
--- what a mark answers after so many passes or sweeps: 8 or 10 by the class of the first number that is not finite, and its index, or else the pass
+-- what a mark answers after so many passes or sweeps: 8 or 10 by the class of the first number that is not finite, and its index, or else done
 abbrev pub marked : ℕ → ℕ → Bad → Answer
 marked mark count (At k c) = answered c mark k count
 marked mark count Nowhere = done count

@@ -1,5 +1,5 @@
 -- What checks say where they pass and where they refuse, of one call and of two that differ in old contents or in the limit. Laws only.
-use mathlib.Core.Path.{_≡_, refl, sym, ap, subst}
+use mathlib.Core.Path.{_≡_, refl, sym, ap, _∙_, subst}
 use mathlib.Core.Bool.{Bool, true, false, cond, true≢false}
 use Prim.Native.Nat.{ℕ, _≤_}
 use native.Mathlib.Omega.{arith}
@@ -22,6 +22,10 @@ present-is flag count p = rw (ne-eqb flag 0 p)
 pub present-none : (flag count : ℕ) → flag ≡ 0 → present flag count ≡ 0
 unfolding present
 present-none flag count p = rw (eq-eqb flag 0 p)
+
+-- two outcomes that satisfy a promise, where it is one equation, are the same
+pub one-outcome : {A : Type 0} (x o p : A) → o ≡ x → p ≡ x → o ≡ p
+one-outcome x o p e f = e ∙ sym f
 
 -- ---- a check that passes
 

@@ -48,7 +48,7 @@ pub fn refuse(r: Answer, x: &mut [f64]) -> Answer
     r
 }
 
-// Refusal 7 with its place, or the pass.
+// Refusal 7 with its place, or done.
 pub fn refusal7(b: Bad) -> Answer
     ensures { λ r. ⌜ r ≡ refusal7 b ⌝ }
 {
@@ -58,7 +58,7 @@ pub fn refusal7(b: Bad) -> Answer
     }
 }
 
-// What a mark answers after so many passes or sweeps: 8 or 10, or the pass.
+// What a mark answers after so many passes or sweeps: 8 or 10, or done.
 pub fn marked(mark: usize, count: usize, b: Bad) -> Answer
     ensures { λ r. ⌜ r ≡ marked mark count b ⌝ }
 {

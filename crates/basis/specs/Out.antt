@@ -6,7 +6,7 @@ use Prim.Native.Nat.{ℕ, _+_, _*_, _≤_, _<_}
 use native.Mathlib.Nat.{mul-comm}
 use native.Mathlib.Omega.{arith}
 use lib.Dec.{ltb, leb, eqb}
-use borrow.Author.Tests.{ltb-true, ltb-false, leb-true, leb-false, lt-ltb, le-ltb}
+use borrow.Author.Tests.{ltb-true, ltb-false, lt-ltb, le-ltb}
 use lib.Ieee.{Float, nan, lt}
 use lib.ListN.{length, set, getD, replicate, length-replicate, getD-replicate, List·getD-eq-default}
 use Rattle.grid.specs.LoopLaws.{upto-keeps, upto-same}
@@ -17,7 +17,7 @@ use Rattle.answers.specs.Answers.{least, present}
 use Rattle.grid.specs.TableLaws.{row-end}
 use Rattle.order.specs.Order.{one, countStep, rank, noteStep, noted, order}
 use Rattle.order.specs.Rank.{order-below}
-use Rattle.sorted.specs.Known.{wide-longest, tall-longest, wide-least, tall-least}
+use Rattle.sorted.specs.Known.{left-side, right-side, factor-room}
 use Rattle.sorted.specs.Result.{longest, cellStep, columnOut, sortStep, factorOut, offset, sortedOut}
 use Rattle.svd.specs.Svd.{source, loadStep, columnLoaded, matrixLoaded, eyeStep, eyed, loaded}
 use Rattle.gain.specs.Scale.{scale, Scaled}
@@ -114,29 +114,6 @@ present-less flag r k h = go (eqb flag 0) h
     go true h = absurd (omega arith)
     go false h = h
 
--- where a factor begins, it has room before the values
-u-room : (m n : ℕ) → offset (ltb m n) (longest m n * least m n) + least m n * m ≤ longest m n * least m n + least m n * least m n
-u-room m n = go (ltb m n) refl
-  where
-    go : (b : Bool) → ltb m n ≡ b → cond b (longest m n * least m n) 0 + least m n * m ≤ longest m n * least m n + least m n * least m n
-    go true e =
-        let l : least m n ≡ m = wide-least m n (ltb-true m n e) in
-        rw l (omega arith)
-    go false e =
-        let l : longest m n ≡ m = tall-longest m n (ltb-false m n e) in
-        rw l (omega (arith, mul-comm m (least m n)))
-
-v-room : (m n : ℕ) → offset (leb n m) (longest m n * least m n) + least m n * n ≤ longest m n * least m n + least m n * least m n
-v-room m n = go (leb n m) refl
-  where
-    go : (b : Bool) → leb n m ≡ b → cond b (longest m n * least m n) 0 + least m n * n ≤ longest m n * least m n + least m n * least m n
-    go true e =
-        let l : least m n ≡ n = tall-least m n (leb-true n m e) in
-        rw l (omega arith)
-    go false e =
-        let l : longest m n ≡ n = wide-longest m n (leb-false n m e) in
-        rw l (omega (arith, mul-comm n (least m n)))
-
 pub sorted-alike : (k m n wantU wantVt : ℕ) (w v x y : Vec) → least m n ≤ 256
     → Alike (stage k (longest m n) (least m n) (longest m n * least m n) (least m n)) w v → Alike (under k (least m n)) x y
     → Alike (under k (least m n)) (sortedOut m n wantU wantVt w x) (sortedOut m n wantU wantVt v y)
@@ -145,10 +122,10 @@ sorted-alike k m n wantU wantVt w v x y few h e =
     rw orders
     (factor-alike ρ (present wantVt r) (offset (leb n m) second) n (r + present wantU (m * r)) 1 n w v o _ _
     (λ j i J I. same j (offset (leb n m) second + getD o j 0 * n + i) (r + present wantU (m * r) + j * n + i * 1) (omega arith)
-    (reads (offset (leb n m) second) n j i (present-less wantVt r j J) I (v-room m n)))
+    (reads (offset (leb n m) second) n j i (present-less wantVt r j J) I (factor-room m n (leb n m) n (right-side m n))))
     (factor-alike ρ (present wantU r) (offset (ltb m n) second) m r r 1 w v o _ _
     (λ j i J I. same j (offset (ltb m n) second + getD o j 0 * m + i) (r + j * 1 + i * r) (omega arith)
-    (reads (offset (ltb m n) second) m j i (present-less wantU r j J) I (u-room m n)))
+    (reads (offset (ltb m n) second) m j i (present-less wantU r j J) I (factor-room m n (ltb m n) m (left-side m n))))
     (factor-alike ρ r base 1 0 1 1 w v o x y first e)))
   where
     r : ℕ

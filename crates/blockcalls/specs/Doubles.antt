@@ -10,10 +10,10 @@ use lib.Dec.{T, ltb}
 use lib.ListN.{length, length-map}
 use lib.Ieee.{Float, nan, inf, fin, binary64, isNan, fits, toBits, ofBits}
 use lib.Ieee.Bits.{ofBits-toBits, toBits-lt, toBits-ofBits, nanBits-is, nanBits-above}
+use Rattle.octets.specs.Bytes.{Bytes}
 use Rattle.grid.specs.Real.{Vec}
 use Rattle.answers.specs.Answers.{done}
 use Rattle.octets.specs.Bits.{float, bits}
-use Rattle.octets.specs.BytesLaws.{Bytes}
 use Rattle.block.specs.Content.{Part, Words}
 use Rattle.block.specs.Reading.{good, reading}
 use Rattle.blockread.specs.Lookup.{copied}

@@ -12,18 +12,18 @@ use lib.Seq.{take-all}
 use Rattle.grid.specs.Real.{Vec}
 use Rattle.answers.specs.Answers.{done, refused}
 use Rattle.answers.specs.declared.Answer.{Answer}
-use Rattle.octets.specs.Bytes.{wordsBytes, num, wordsAt}
+use Rattle.octets.specs.Bytes.{wordsBytes, num, wordsAt, Bytes}
 use Rattle.octets.specs.Bits.{float}
-use Rattle.octets.specs.BytesLaws.{Bytes, words-spelled, words-bound, words-taken, wordsBytes-length}
+use Rattle.octets.specs.BytesLaws.{words-spelled, words-bound, words-taken, wordsBytes-length}
 use Rattle.block.specs.Content.{Part, Words, size}
-use Rattle.block.specs.Reading.{entryAnswer, entries, answerOf, partsAt, Text, good, reading}
+use Rattle.block.specs.Reading.{entryAnswer, entries, answerOf, partsAt, good, reading}
 use Rattle.block.specs.Reading as reads
 use Rattle.block.specs.CheckLaws.{or-else, entry-good, entries-within, opened}
 use Rattle.blockread.specs.Held.{placeIn, held, noBlock, blockRead}
 use Rattle.blockread.specs.Lookup.{spanOf, partOf, first, lookup, copied}
 use Rattle.blockread.specs.declared.Span.{Span}
 use Rattle.blockread.specs.declared.Span.the-variants.{At, Missing}
-use Rattle.blockcalls.specs.Sound.{hasPart, partWords, hasIn, wordsIn, chosen}
+use Rattle.blockcalls.specs.Sound.{hasPart, partWords, hasIn, wordsIn, chosen, Spanned, Recorded}
 
 -- ---- the search
 
@@ -70,10 +70,6 @@ known-place t kind g e =
 
 -- ---- the lookup
 
-pub record Spanned (t : List ℕ) (kind : ℕ) (x : Text) : Type 0 where
-  pub there : first (spanOf t kind) true false ≡ hasIn kind x
-  pub bytes : partOf t (spanOf t kind) ≡ wordsBytes (wordsIn kind x)
-
 -- where a part is found, and what it is
 spanned-at : (t : List ℕ) (n p : ℕ) (x : Bool) (ws : List ℕ) → FoundAt t n p x ws
     → (first (cond (eqb p 0) Missing (At p (p + 8 * n))) true false ≡ x) × (partOf t (cond (eqb p 0) Missing (At p (p + 8 * n))) ≡ wordsBytes ws)
@@ -112,14 +108,6 @@ lookup-is own main kind g h =
     go Missing false h p q = q
 
 -- ---- the reader's record
-
-pub record Recorded (t : List ℕ) (r c : ℕ) (ps : List Part) : Type 0 where
-  pub answer : blockRead t .answer ≡ done 0
-  pub rows : blockRead t .rows ≡ r
-  pub columns : blockRead t .columns ≡ c
-  pub values : take (8 * blockRead t .values) (drop (blockRead t .«values_at») t) ≡ wordsBytes (partWords 1 ps)
-  pub matrix : take (8 * blockRead t .matrix) (drop (blockRead t .«matrix_at») t) ≡ wordsBytes (partWords 2 ps)
-  pub inverse : take (8 * blockRead t .inverse) (drop (blockRead t .«inverse_at») t) ≡ wordsBytes (partWords 3 ps)
 
 held-at : (t : List ℕ) (r c kind p : ℕ) (x : Bool) (ws : List ℕ) → FoundAt t (size r c kind) p x ws → take (8 * held r c kind p) (drop p t) ≡ wordsBytes ws
 unfolding held wordsBytes

@@ -11,15 +11,15 @@ use lib.ListN.{length, take, drop, length-append, length-drop, take-append-drop}
 use lib.Seq.{drop-drop, drop-length}
 use Rattle.answers.specs.Answers.{done, refused}
 use Rattle.answers.specs.declared.Answer.{Answer}
-use Rattle.octets.specs.Bytes.{three, wordsBytes, num, wordsAt}
-use Rattle.octets.specs.BytesLaws.{Bytes, parts, front, take-two, part-length, three-length, three-spelled, Three, three-taken, wordsBytes-length, wordsAt-length, words-spelled, words-bound, words-taken}
+use Rattle.octets.specs.Bytes.{three, wordsBytes, num, wordsAt, Bytes}
+use Rattle.octets.specs.BytesLaws.{parts, front, take-two, part-length, three-length, three-spelled, Three, three-taken, wordsBytes-length, wordsAt-length, words-spelled, words-bound, words-taken}
 use Rattle.block.specs.Content.{Part, size, Parts, Content, heads, entriesBytes, numbersBytes, blockOf}
 use Rattle.block.specs.Reading.{dimensions, headAnswer, entryAnswer, entries, behind, answerOf, partsAt, good, reading}
 use Rattle.block.specs.Reading as reads
 use Rattle.block.specs.CheckLaws.{size-most, or-else, dimensions-good, dimensions-pass, head-good, head-pass, entry-good, entry-pass, ended-good, ended-pass, Opened, opened, entries-within}
-use Rattle.blockentries.specs.Writing.{given, headsAnswer, checked, bytesOf, written}
+use Rattle.blockentries.specs.Writing.{headsAnswer, checked, bytesOf, written}
 use Rattle.blockentries.specs.PutLaws.{counts, heads-length, entriesBytes-length, block-length, with-is}
-use Rattle.blockcalls.specs.Sound.{IsBlock, Numbers}
+use Rattle.blockcalls.specs.Sound.{IsBlock, Numbers, Wrote}
 
 -- ---- what is read is what is written
 
@@ -206,11 +206,6 @@ read-of-written r c ps out ok e =
       rw (eq-eqb (checked r c (length ps) (heads ps)) 0 z, eq-eqb (length out) (length (blockOf r c ps)) e),
       rw (eq-eqb (checked r c (length ps) (heads ps)) 0 z, eq-eqb (length out) (length (blockOf r c ps)) e) (accepts r c ps ok),
     )
-
--- where the writer answers 0, what it left is the block of what it was told, and is read as that
-pub record Wrote (r c : ℕ) (ps : List Part) (x : Answer × List ℕ) : Type 0 where
-  pub block : IsBlock (x .1) r c ps
-  pub back : reading (x .1) ≡ good r c ps
 
 pub written-block : (r c : ℕ) (ps : List Part) (out : List ℕ) → Numbers ps → written r c (length ps) ps out .0 .answer ≡ 0 → Wrote r c ps (written r c (length ps) ps out)
 unfolding written

@@ -1,10 +1,11 @@
 -- The promises of the calls on blocks determine the outcome: two that satisfy one are the same. Laws only.
-use mathlib.Core.Path.{_≡_, sym, _∙_}
+use mathlib.Core.Path.{_≡_}
 use mathlib.Core.List.{List}
 use Prim.Native.Nat.{ℕ}
 use Rattle.grid.specs.Real.{Vec}
 use Rattle.answers.specs.Answers.{refused}
 use Rattle.answers.specs.declared.Answer.{Answer}
+use Rattle.answers.specs.OutcomeLaws.{one-outcome}
 use Rattle.block.specs.Content.{Part}
 use Rattle.block.specs.Reading.{answerOf}
 use Rattle.blockread.specs.Held.{blockRead, shapeOf}
@@ -13,10 +14,6 @@ use Rattle.blockread.specs.declared.Block.{Block}
 use Rattle.blockread.specs.declared.Shape.{Shape}
 use Rattle.blockread.specs.declared.Found.{Found}
 use Rattle.blockentries.specs.Writing.{lengthOf, written}
-
--- of any promise that is one equation
-pub one-outcome : {A : Type 0} (x o p : A) → o ≡ x → p ≡ x → o ≡ p
-one-outcome x o p e f = e ∙ sym f
 
 pub check-one : (t : List ℕ) (o p : Answer) → o ≡ refused (answerOf t) 0 → p ≡ refused (answerOf t) 0 → o ≡ p
 check-one t = one-outcome (refused (answerOf t) 0)

@@ -13,6 +13,7 @@ use Rattle.blockread.specs.Held.{placeIn}
 use Rattle.blockread.specs.Lookup.{spanOf, partOf, partAt, first, lookup, lookupAt, foundIn, found}
 use Rattle.blockread.specs.declared.Span.{Span}
 use Rattle.blockread.specs.declared.Span.the-variants.{At, Missing}
+use Rattle.blockcalls.specs.Sound.{named}
 
 -- a part has whole numbers
 abbrev Whole : Span → Type 0
@@ -31,10 +32,6 @@ whole t kind = go (eqb (answerOf t) 0) (eqb (placeIn t (num 4 t 8) 12 kind) 0)
     go true true = tt
     go true false = eight (placeIn t (num 4 t 8) 12 kind) (size (num 4 t 0) (num 4 t 4) kind)
     go false y = tt
-
--- the block that is named: 1 the tile's own; 2, and 0 for the empty start, the main one
-abbrev pub named : {A : Type 0} → ℕ → A → A → A
-named block own main = cond (eqb block 1) own main
 
 pub found-part : (own main : List ℕ) (kind : ℕ)
     → take (8 * found own main kind .count) (drop (found own main kind .start) (named (found own main kind .block) own main)) ≡ lookup own main kind

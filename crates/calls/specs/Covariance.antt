@@ -12,9 +12,9 @@ use Rattle.grid.specs.CellLaws.{cell}
 use Rattle.leaves.specs.Finite.{Finite}
 use Rattle.answers.specs.declared.Answer.{Answer}
 use Rattle.eigen.specs.Eigen.{eigen}
-use Rattle.exact.specs.Exact.{Outcome, Promised, Taken}
+use Rattle.exact.specs.Exact.{Outcome, Promised, Taken, RunAnswer}
 use Rattle.exact.specs.ExactLaws.{says}
-use Rattle.exact.specs.Ran.{Ran, says-ran}
+use Rattle.exact.specs.Ran.{says-ran}
 use Rattle.covariance.specs.Covariance.{covariance}
 use Rattle.entries.specs.Exact.{Exactly, FirstOver, Untouched}
 use Rattle.entries.specs.ExactLaws.{covariance-sizes, covariance-long, covariance-symmetric, covariance-exact, covariance-finite-out, covariance-over-first}
@@ -54,8 +54,8 @@ module _ (n N : ℕ) (samples : List ℤ) (m : Vec) (o : Answer × Vec) (p : o �
       }
 
       -- so that a call that meets its promise, x, answers 0, 8, 9 or 10
-      pub covariance-then-ran : (x : Outcome) → Promised n limit edition (o .1) work result x → Ran (x .0)
-      covariance-then-ran x q = subst (λ (r : Outcome). Ran (r .0)) (sym q) (says-ran n limit edition (o .1) (eigen n limit edition (o .1) work result) (says n limit edition (o .1) work result covariance-then-eigen))
+      pub covariance-then-ran : (x : Outcome) → Promised n limit edition (o .1) work result x → RunAnswer (x .0)
+      covariance-then-ran x q = subst (λ (r : Outcome). RunAnswer (r .0)) (sym q) (says-ran n limit edition (o .1) (eigen n limit edition (o .1) work result) (says n limit edition (o .1) work result covariance-then-eigen))
 
 -- two calls that differ in what the matrix held before, x and y
 pub covariance-old-contents-calls : (n N : ℕ) (samples : List ℤ) (x y : Vec) (o p : Answer × Vec) → length x ≡ length y

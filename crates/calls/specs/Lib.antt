@@ -2,5 +2,6 @@
 pub mod Eigen
 pub mod Svd
 pub mod Answers
+pub mod Sayings
 pub mod Together
 pub mod Covariance

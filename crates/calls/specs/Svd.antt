@@ -10,7 +10,6 @@ use Rattle.leaves.specs.Leaf.{isFinite}
 use Rattle.answers.specs.Answers.{done, answered, least, decompositionLength}
 use Rattle.answers.specs.Early.{Early}
 use Rattle.answers.specs.Index.{AtMark}
-use Rattle.answers.specs.declared.Answer.{Answer}
 use Rattle.plain.specs.Told.{bad, used}
 use Rattle.svd.specs.Svd.{svd}
 use Rattle.row.specs.Row.{rowSpan, partOf}

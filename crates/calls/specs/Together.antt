@@ -1,6 +1,6 @@
 -- An svd that is done, with both factors, is taken by `pseudo_inverse` and by `solve`: neither refuses the decomposition, but only a tolerance or a right side. Laws only.
 use mathlib.Core.Path.{_≡_, refl, sym, ap, _∙_, subst}
-use mathlib.Core.Logic.{_⊎_, inl, inr}
+use mathlib.Core.Logic.{inl, inr}
 use mathlib.Core.Bool.{Bool, true, false, cond}
 use mathlib.Core.List.{_++_}
 use Prim.Native.Nat.{ℕ, _+_, _*_, _<_}
@@ -14,9 +14,8 @@ use Rattle.leaves.specs.ScanLaws.{orElse, behind, firstBad-none, firstBad-fine,
 use Rattle.leaves.specs.Finite.{Finite}
 use Rattle.leaves.specs.declared.Bad.{Bad}
 use Rattle.leaves.specs.declared.Bad.the-variants.{At, Nowhere}
-use Rattle.answers.specs.Answers.{answered, done, refused, emptied, marked, unlessBad, least, present, decompositionLength}
+use Rattle.answers.specs.Answers.{done, emptied, marked, unlessBad, least, decompositionLength}
 use Rattle.answers.specs.OutcomeLaws.{present-is}
-use Rattle.answers.specs.declared.Answer.{Answer}
 use Rattle.checks.specs.Checks.{toleranceGood, lengths, fitting}
 use Rattle.checks.specs.ToleranceLaws.{fitting-11, fitting-lengths}
 use Rattle.plain.specs.Exact.{Outcome, Promised, Taken}
@@ -27,22 +26,7 @@ use Rattle.solve.specs.Checked.{solve-checks-5, solve-checks-last, inverse-chec
 use Rattle.solve.specs.Solve.{solveChecks, inverseChecks, looked, solve, pseudoInverse}
 use Rattle.solution.specs.Solution.{solution}
 use Rattle.inverse.specs.Inverse.{inverted}
-
--- done, or refused by mark 2 with the index i and the class c: a value is too small to divide by
-abbrev pub Ends : Answer → Type 0
-Ends x = (x ≡ done 0) ⊎ ((i : ℕ) × (c : ℕ) × ((c ≡ 8) ⊎ (c ≡ 10)) × (x ≡ answered c 2 i 0))
-
--- what `pseudo_inverse` says of a tolerance: that it is refused, or nothing
-pub data Weighs (tol : Float) (x : Answer) : Type 0 where
-  refuses : toleranceGood tol ≡ false → x ≡ refused 11 0 → Weighs tol x
-  takes : toleranceGood tol ≡ true → Ends x → Weighs tol x
-
--- what `solve` says of a right side and a tolerance: the right side's length, the tolerance, the right side's first number that is not finite behind the l numbers of the decomposition, or nothing
-pub data Says (m l : ℕ) (tol : Float) (b : Vec) (x : Answer) : Type 0 where
-  length-wrong : (length b ≡ m → ⊥) → x ≡ refused 5 0 → Says m l tol b x
-  tolerance-bad : length b ≡ m → toleranceGood tol ≡ false → x ≡ refused 11 0 → Says m l tol b x
-  not-finite : length b ≡ m → toleranceGood tol ≡ true → (i c : ℕ) → firstBad b ≡ At i c → x ≡ refused 7 (l + i) → Says m l tol b x
-  ends : length b ≡ m → toleranceGood tol ≡ true → Finite b → Ends x → Says m l tol b x
+use Rattle.calls.specs.Sayings.{Ends, Weighs, refuses, takes, Says, length-wrong, tolerance-bad, not-finite, ends}
 
 looked-ends : (x : Vec) → Ends (looked x .0)
 unfolding looked

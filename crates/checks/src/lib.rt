@@ -32,7 +32,7 @@ fn tolerance_good(tolerance: f64) -> bool
     tolerance >= 0.0
 }
 
-// Refusal 6 with the first array whose length is not the one wanted, or the pass.
+// Refusal 6 with the first array whose length is not the one wanted, or done.
 pub fn lengths(a: usize, want_a: usize, b: usize, want_b: usize, c: usize, want_c: usize) -> Answer
     ensures { λ r. ⌜ r ≡ lengths a «want_a» b «want_b» c «want_c» ⌝ }
 {
@@ -48,7 +48,7 @@ pub fn lengths(a: usize, want_a: usize, b: usize, want_b: usize, c: usize, want_
     done(0)
 }
 
-// Refusal 11, or 6 as in `lengths`, or the pass: of a call with a tolerance and two arrays.
+// Refusal 11, or 6 as in `lengths`, or done: of a call with a tolerance and two arrays.
 pub fn fitting(tolerance: f64, a: usize, want_a: usize, b: usize, want_b: usize) -> Answer
     ensures { λ r. ⌜ r ≡ fitting tolerance a «want_a» b «want_b» ⌝ }
 {
@@ -58,7 +58,7 @@ pub fn fitting(tolerance: f64, a: usize, want_a: usize, b: usize, want_b: usize)
     lengths(a, want_a, b, want_b, 0, 0)
 }
 
-// Refusal 12, or 6 as in `lengths`, or the pass: of a call with an edition and three arrays.
+// Refusal 12, or 6 as in `lengths`, or done: of a call with an edition and three arrays.
 pub fn fitting_edition(
     edition: usize,
     a: usize,

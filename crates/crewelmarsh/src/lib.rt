@@ -18,7 +18,6 @@ ghost use Rattle.figures.specs.Tallies.{outcome};
 use answers::Answer;
 use blockread::Found;
 use blockread::Shape;
-use figures::Reply;
 use figures::Tally;
 use row::Extent;
 use steps::EigenRun;

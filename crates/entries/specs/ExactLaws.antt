@@ -5,10 +5,10 @@ use mathlib.Core.List.{List}
 use Prim.Native.Nat.{ℕ, zero, suc, _+_, _*_, _-_, _/_, _%_, _≤_, _<_}
 use native.Mathlib.Nat.{div-lt-iff-lt-mul, mod-lt, div-add-mod'}
 use native.Mathlib.Omega.{arith}
-use borrow.Author.Tests.{ltb-true, ltb-false, lt-ltb, eqb-true, eqb-false}
+use borrow.Author.Tests.{ltb-true, ltb-false, eqb-true, eqb-false}
 use lib.Dec.{ltb, eqb}
 use lib.IntN.{ℤ, pos, negsuc, natAbs}
-use lib.Ieee.{Float, binary64, nan, inf, fin, round, ofInt}
+use lib.Ieee.{Float, binary64, nan, inf, fin, ofInt}
 use lib.Ieee.Back.{round-whole}
 use lib.ListN.{length}
 use Rattle.grid.specs.Loop.{first, seek}
@@ -18,7 +18,6 @@ use Rattle.grid.specs.CellLaws.{cell}
 use Rattle.grid.specs.TableLaws.{at-table, length-table, row-end}
 use Rattle.leaves.specs.Leaf.{isFinite}
 use Rattle.leaves.specs.Finite.{Finite}
-use Rattle.answers.specs.Answers.{done, refused, passed, emptied}
 use Rattle.answers.specs.declared.Answer.{Answer}
 use Rattle.bands.specs.Bands.{whole, cellAt}
 use Rattle.bands.specs.Bands.{firstOver, matrixOf, computed}

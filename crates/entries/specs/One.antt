@@ -1,17 +1,16 @@
 -- The promise of `covariance` determines the outcome; what the matrix held before changes nothing but what a refusal 1, 25 or 6 leaves as it was; the index is 0. Laws only.
-use mathlib.Core.Path.{_≡_, refl, ap, sym, _∙_}
+use mathlib.Core.Path.{_≡_, refl, sym, _∙_}
 use mathlib.Core.Bool.{Bool, true, false, cond, _||_}
 use mathlib.Core.List.{List}
 use mathlib.Core.Logic.{⊎-elim, inl, inr}
-use Prim.Native.Nat.{ℕ, _*_, _≤_}
+use Prim.Native.Nat.{ℕ, _*_}
 use native.Mathlib.Omega.{arith}
 use borrow.Author.Tests.{eqb-false}
-use lib.Dec.{ltb, eqb}
+use lib.Dec.{ltb}
 use lib.IntN.{ℤ}
 use lib.ListN.{length}
-use Rattle.grid.specs.Real.{Vec, zeros}
+use Rattle.grid.specs.Real.{Vec}
 use Rattle.answers.specs.Answers.{refused, done, passed, emptied}
-use Rattle.answers.specs.Early.{Early}
 use Rattle.answers.specs.IndexLaws.{refuse-index}
 use Rattle.answers.specs.declared.Answer.{Answer}
 use Rattle.checks.specs.Checks.{lengths}

@@ -15,8 +15,6 @@ use Rattle.grid.specs.CellLaws.{Sized}
 use Rattle.leaves.specs.Scan.{firstBadLower}
 use Rattle.leaves.specs.ScanLaws.{lower-same}
 use Rattle.answers.specs.Answers.{done, passed, refusal7}
-use Rattle.answers.specs.declared.Answer.{Answer}
-use Rattle.tred.specs.Tred.{tred2}
 use Rattle.tred.specs.Lower.{lower}
 use Rattle.layout.specs.Layout.{columns}
 use Rattle.aftertred.specs.AfterTred.{afterTred}

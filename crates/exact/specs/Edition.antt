@@ -1,5 +1,5 @@
 -- An edition that is neither 1 nor 2: answer 12 behind 1 and 2, whatever the lengths, and nothing is touched. Laws only.
-use mathlib.Core.Path.{_≡_, refl, sym}
+use mathlib.Core.Path.{_≡_, refl}
 use mathlib.Core.Logic.{⊎-elim}
 use mathlib.Core.Bool.{Bool, true, false}
 use Prim.Native.Nat.{ℕ, _+_, _*_, _≤_}

@@ -30,6 +30,10 @@ Outcome = Answer × Vec × Vec
 abbrev pub Promised : ℕ → ℕ → ℕ → Vec → Vec → Vec → Outcome → Type 0
 Promised n limit edition a work result x = x ≡ eigen n limit edition a work result
 
+-- done, stopped by a mark or by the limit: no refusal over sizes, lengths or what is read
+abbrev pub RunAnswer : Answer → Type 0
+RunAnswer x = (x .answer ≡ 0) ⊎ (x .answer ≡ 9) ⊎ Class (x .answer)
+
 -- a call that passes checks 1, 2, 12 and 6
 pub record Fit (n limit edition : ℕ) (a work result : Vec) : Type 0 where
   pub small : n ≤ 256

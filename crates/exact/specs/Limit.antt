@@ -1,5 +1,5 @@
 -- An outcome of `symmetric_eigen` that is not refusal 9 is the outcome at every higher limit (`eigen-limit`). Laws only.
-use mathlib.Core.Path.{_≡_, refl, sym, ap, _∙_}
+use mathlib.Core.Path.{refl, sym, ap, _∙_}
 use mathlib.Core.Bool.{not}
 use Prim.Native.Nat.{ℕ, _+_, _*_, _≤_}
 use native.Mathlib.Omega.{arith}

@@ -31,7 +31,7 @@ use Rattle.told.specs.Document.{Carried, begun}
 use Rattle.told.specs.Long.{ran-long}
 use Rattle.told.specs.Told.{list1, list2, Ran, Whole, Told, well, at-mark2, at-mark1, at-limit}
 use Rattle.told.specs.ToldLaws.{class-above, mark1-sees, ran-document}
-use Rattle.told.specs.Arranged.{Permutation, Arranged}
+use Rattle.told.specs.Arranged.{Arranged}
 use Rattle.told.specs.SortLaws.{sorted-arranged, sorted-ascends}
 use Rattle.eigen.specs.Eigen.{decomposed, cleared, given, entered, eigen}
 use Rattle.exact.specs.Exact.{Outcome, Taken, reduced, list0, Done, empty, worked, Says, nothing, at-mark0, runs, Some, Columns}

@@ -3,7 +3,8 @@ use mathlib.Core.Path.{_≡_, refl}
 use mathlib.Core.List.{List, [], _∷_}
 use Prim.Native.Nat.{ℕ}
 use Rattle.figures.specs.Figures.{Tile}
-use Rattle.figures.specs.Tallies.{every, small, fit, first-of, refusal, next, outcome, zeros, none}
+use Rattle.grid.specs.Loop.{every}
+use Rattle.figures.specs.Tallies.{small, fit, first-of, refusal, next, outcome, zeros, none}
 use Rattle.figures.specs.Series.{series}
 use Rattle.figures.specs.declared.Tally.{Tally}
 

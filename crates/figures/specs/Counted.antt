@@ -1,20 +1,21 @@
 -- T32: after any series of tiles each figure of the tally is the one counted from the list of the tiles that were added (`counted`), which those are (`taken-accepted`), and what each tile is answered (`answered`). Laws only.
 use mathlib.Core.Path.{_≡_, refl, sym, ap, _∙_}
-use mathlib.Core.Bool.{Bool, true, false, cond, _&&_, true≢false}
+use mathlib.Core.Bool.{Bool, true, false, cond}
 use mathlib.Core.Logic.{_⊎_, inl, inr, ⊎-elim}
 use mathlib.Core.List.{List, [], _∷_, _++_, append-nil, append-assoc}
 use Prim.Native.Nat.{ℕ, zero, suc, _+_, _*_, _≤_, _<_}
 use native.Mathlib.Nat.{not-suc-le-zero, le-antisymm}
 use native.Mathlib.Numerals.{add-one}
 use native.Mathlib.Omega.{arith}
-use borrow.Author.Tests.{ltb-true, ltb-false, leb-true, leb-false, lt-ltb, le-ltb, le-leb, lt-leb, eqb-true, eqb-false, eq-eqb, ne-eqb}
+use borrow.Author.Tests.{ltb-true, ltb-false, leb-true, le-ltb, le-leb, eqb-true, eqb-false, eq-eqb, ne-eqb}
 use lib.Dec.{ltb, leb, eqb}
 use lib.ListN.{length, getD, set, take, length-append, length-set, List·getD-append}
 use lib.Seq.{ext-getD, getD-at, getD-set-same, getD-set-other}
 use Rattle.figures.specs.Figures.{Tile, count, table, counts, total, larger, most, place, first, good, goods, accepted}
 use Rattle.figures.specs.Tallies.{smallAt, small, fit, first-of, refusal, next, outcome, zeros, none}
 use Rattle.figures.specs.Series.{figures, series, takenOf}
-use Rattle.figures.specs.TallyLaws.{below-cases, both, every-all, Taken, takes}
+use Rattle.figures.specs.TallyLaws.{Taken, takes}
+use Rattle.grid.specs.LoopLaws.{below-cases, both, every-all}
 use Rattle.figures.specs.declared.Tally.{Tally}
 
 -- ---- one tile more at the end of a list

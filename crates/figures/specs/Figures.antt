@@ -1,9 +1,9 @@
 -- The figures of a list of tiles, counted from the list alone. Definitions only.
-use mathlib.Core.Bool.{Bool, true, false, cond, _&&_}
+use mathlib.Core.Bool.{Bool, cond, _&&_}
 use mathlib.Core.List.{List, [], _∷_, _++_}
 use Prim.Native.Nat.{ℕ, zero, suc, _+_}
 use lib.Dec.{ltb, leb, eqb}
-use lib.ListN.{length, take}
+use lib.ListN.{take}
 
 -- a tile: its answer number and its passes
 pub record Tile : Type 0 where

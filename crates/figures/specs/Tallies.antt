@@ -1,17 +1,13 @@
 -- What adding a tile does to a tally, for every tally and numbers. Definitions only.
-use mathlib.Core.Bool.{Bool, true, false, cond, _&&_}
+use mathlib.Core.Bool.{Bool, cond, _&&_}
 use mathlib.Core.List.{List, [], _∷_, _++_}
 use Prim.Native.Nat.{ℕ, zero, suc, _+_}
 use lib.Dec.{ltb, leb, eqb}
 use lib.ListN.{getD, set}
+use Rattle.grid.specs.Loop.{every}
 use Rattle.figures.specs.Figures.{inRange}
 use Rattle.figures.specs.declared.Tally.{Tally}
 use Rattle.figures.specs.declared.Reply.{Reply}
-
--- p holds of 0, 1, .., m - 1
-unfoldable pub every : (ℕ → Bool) → ℕ → Bool
-every p zero = true
-every p (suc m) = every p m && p m
 
 abbrev pub smallAt : List ℕ → ℕ → Bool
 smallAt counts a = leb (getD counts a 0) 65536

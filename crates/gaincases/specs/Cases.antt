@@ -5,7 +5,7 @@ use mathlib.Core.List.{[], _∷_, map}
 use Prim.Native.Nat.{ℕ}
 use lib.IntN.{ℤ}
 use lib.Ieee.{Float, binary64, ofBits, neg, add, sub, mul, div, lt, le, eq}
-use Rattle.grid.specs.Loop.{seek, first, times, upto, rounds}
+use Rattle.grid.specs.Loop.{seek, first, every, times, upto, rounds}
 use Rattle.grid.specs.Real.{Vec, zeros, zero64, one64, two64}
 use Rattle.grid.specs.Table.{table}
 use Rattle.root.specs.Root.{whole, rootOf, root}
@@ -23,7 +23,7 @@ use Rattle.svd.specs.Svd.{source, columnLoaded, matrixLoaded, eyed, loaded, che
 use Rattle.plain.specs.Exact.{Outcome, begun}
 use Rattle.gain.specs.Scale.{scale, isZero, fine}
 use Rattle.basis.specs.Gained.{Gained}
-use Rattle.gaincases.specs.Test.{productTest, every, along, roundsTest, gramTest, skipTest, rotationTest, turnTest, pairTest, sweepTest, columnTest, runTest}
+use Rattle.gaincases.specs.Test.{productTest, along, roundsTest, gramTest, skipTest, rotationTest, turnTest, pairTest, sweepTest, columnTest, runTest}
 
 -- both factors wanted, the limit 60
 unfoldable pub tested : (Float → Bool) → Bool → ℕ → ℕ → Vec → Bool

@@ -3,7 +3,7 @@
 use mathlib.Core.Bool.{Bool, true, false, not, _&&_, _||_}
 use Prim.Native.Nat.{ℕ, zero, suc, _+_, _-_}
 use lib.Ieee.{Float, eq}
-use Rattle.grid.specs.Loop.{upto}
+use Rattle.grid.specs.Loop.{every, upto}
 use Rattle.grid.specs.Real.{Vec, at, zero64, two64, epsilon, _⊕_, _⊖_, _⊗_}
 use Rattle.root.specs.Root.{root}
 use Rattle.answers.specs.Answers.{passed}
@@ -14,11 +14,6 @@ use Rattle.values.specs.Values.{normStep, normSq, normalStep}
 use Rattle.jacobi.specs.Jacobi.{goingAfter, swept, ended, sweeps}
 use Rattle.gain.specs.Scale.{isZero}
 use Rattle.basis.specs.Fine.{nothing, gramOf}
-
--- p holds of every number below n
-unfoldable pub every : (ℕ → Bool) → ℕ → Bool
-every p zero = true
-every p (suc n) = every p n && p n
 
 module _ {S : Type 0} where
   unfoldable pub along : (ℕ → S → S) → (ℕ → S → Bool) → ℕ → ℕ → S → Bool

@@ -7,7 +7,7 @@ use lib.Dec.{T, ltb}
 use borrow.Author.Tests.{ltb-true, ltb-false}
 use lib.Ieee.{Float, eq}
 use lib.Ieee.Fits.{and-l, and-r}
-use Rattle.grid.specs.Loop.{upto}
+use Rattle.grid.specs.Loop.{every, upto}
 use Rattle.grid.specs.Real.{Vec, at, zero64, two64, epsilon, _⊕_, _⊖_, _⊗_}
 use Rattle.root.specs.Root.{root}
 use Rattle.answers.specs.Answers.{passed}
@@ -19,7 +19,7 @@ use Rattle.jacobi.specs.Jacobi.{goingAfter, swept, ended, sweeps}
 use Rattle.gain.specs.Scale.{fine, isZero, Product}
 use Rattle.gain.specs.Along.{Along, Rounds}
 use Rattle.basis.specs.Fine.{GramFine, nothing, SkipFine, RotationFine, TurnFine, gramOf, PairFine, PairsFine, SweepFine, NormFine, ColumnFine, RunFine}
-use Rattle.gaincases.specs.Test.{productTest, every, along, roundsTest, gramTest, skipTest, rotationTest, turnTest, pairTest, sweepTest, columnTest, runTest}
+use Rattle.gaincases.specs.Test.{productTest, along, roundsTest, gramTest, skipTest, rotationTest, turnTest, pairTest, sweepTest, columnTest, runTest}
 
 or-r : (a b : Bool) → T (a || b) → a ≡ false → T b
 or-r true b t e = absurd (true≢false e)

@@ -1,5 +1,5 @@
--- A loop as a definition: `upto`, `down` and `fall` by turns that are counted, `first` a search, `rounds` until a test holds. Definitions only.
-use mathlib.Core.Bool.{Bool, cond}
+-- A loop as a definition: `upto`, `down` and `fall` by turns that are counted, `first` a search, `rounds` until a test holds; `every` a test of each number below a bound. Definitions only.
+use mathlib.Core.Bool.{Bool, true, cond, _&&_}
 use Prim.Native.Nat.{ℕ, zero, suc, _+_, _-_}
 
 -- the first of a, a + 1, .., a + k - 1 at which p holds, or a + k
@@ -10,6 +10,11 @@ seek p a (suc k) = cond (p a) a (seek p (a + 1) k)
 -- the first index from a on and below b at which p holds, or b
 unfoldable pub first : (ℕ → Bool) → ℕ → ℕ → ℕ
 first p a b = seek p a (b - a)
+
+-- p holds of every number below m
+unfoldable pub every : (ℕ → Bool) → ℕ → Bool
+every p zero = true
+every p (suc m) = every p m && p m
 
 module _ {S : Type 0} where
   -- f at 0, 1, .., k - 1 in turn

@@ -1,12 +1,15 @@
--- The laws of loops, of one and of two side by side. Laws only.
+-- The laws of loops, of one and of two side by side, and of tests. Laws only.
 -- Those of `down`, `fall`, `first` and `rounds` speak of what is left to do: it gives what the whole gives.
 use mathlib.Core.Path.{_≡_, refl, ap, sym, _∙_, subst}
-use mathlib.Core.Bool.{Bool, true, false, cond, true≢false}
+use mathlib.Core.Bool.{Bool, true, false, cond, _&&_, true≢false}
+use mathlib.Core.Logic.{_⊎_, inl, inr, ⊎-elim}
 use Prim.Native.Nat.{ℕ, zero, suc, _+_, _-_, _≤_, _<_}
 use native.Mathlib.Numerals.{add-one, sub-one}
 use native.Mathlib.Nat.{sub-self, le-antisymm, not-suc-le-zero, add-zero}
 use native.Mathlib.Omega.{arith}
-use Rattle.grid.specs.Loop.{seek, first, times, upto, down, rounds, drops, fall}
+use borrow.Author.Tests.{ltb-true, ltb-false}
+use lib.Dec.{ltb}
+use Rattle.grid.specs.Loop.{seek, first, every, times, upto, down, rounds, drops, fall}
 
 -- ---- the first that
 
@@ -27,6 +30,46 @@ unfolding first seek
 first-none p a b h g =
     let k : b - a ≡ 0 = omega arith in
     rw k at g
+
+-- ---- tests, of one and of every number below a bound
+
+pub both : (a b : Bool) → (a && b) ≡ true → (a ≡ true) × (b ≡ true)
+both true b e = (refl, e)
+both false b e = absurd (true≢false (sym e))
+
+pub below-cases : (i m : ℕ) → i < suc m → (i < m) ⊎ (i ≡ m)
+below-cases i m h = go (ltb i m) refl
+  where
+    go : (b : Bool) → ltb i m ≡ b → (i < m) ⊎ (i ≡ m)
+    go true e = inl (ltb-true i m e)
+    go false e = inr (le-antisymm (omega arith) (ltb-false i m e))
+
+pub every-none : (p : ℕ → Bool) → every p 0 ≡ true
+unfolding every
+every-none p = refl
+
+pub every-more : (p : ℕ → Bool) (m : ℕ) → every p m ≡ true → p m ≡ true → every p (m + 1) ≡ true
+unfolding every
+every-more p m e f = rw (add-one, e, f)
+
+pub every-at : (p : ℕ → Bool) (m i : ℕ) → every p m ≡ true → i < m → p i ≡ true
+unfolding every
+every-at p zero i e h = absurd (not-suc-le-zero h)
+every-at p (suc m) i e h =
+    let w = both (every p m) (p m) e in
+    ⊎-elim (λ g. every-at p m i (w .0) g) (λ g. ap p g ∙ w .1) (below-cases i m h)
+
+pub every-fails : (p : ℕ → Bool) (m i : ℕ) → i < m → p i ≡ false → every p m ≡ false
+every-fails p m i h f = go (every p m) refl
+  where
+    go : (b : Bool) → every p m ≡ b → every p m ≡ false
+    go true e = absurd (true≢false (sym (every-at p m i e h) ∙ f))
+    go false e = e
+
+pub every-all : (p : ℕ → Bool) (m : ℕ) → ((i : ℕ) → i < m → p i ≡ true) → every p m ≡ true
+unfolding every
+every-all p zero h = refl
+every-all p (suc m) h = rw (every-all p m (λ i g. h i (omega arith)), h m (omega arith))
 
 -- ---- counting up and down
 

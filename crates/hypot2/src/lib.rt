@@ -7,7 +7,7 @@ ghost use lib.Ieee.{binary64, toBits, ofBits};
 ghost use lib.Ieee.Scale.{finite};
 ghost use Rattle.leaves.specs.Leaf.{magnitude};
 ghost use Rattle.rounding.specs.Parts.{low, val};
-ghost use Rattle.nearest.specs.Hypot2.{rootOf, hypot2};
+ghost use Rattle.nearest.specs.Hypot2.{rootOfSum, hypot2};
 ghost use Rattle.nearest.specs.NearestEven.{NearestEven};
 ghost use Rattle.hypot2.specs.Edition.{pythag};
 use leaves::hypot;
@@ -94,7 +94,7 @@ fn whole_root(hi: u64, lo: u64) -> Found
 // The pattern of the root of the sum of two squares, by the patterns of the two numbers, the greater first.
 fn length(a: u64, b: u64) -> u64
     requires { ⌜ (b ≤ a) × (a < 0x7ff0_0000_0000_0000) ⌝ }
-    ensures { λ r. ⌜ (ofBits binary64 r ≡ rootOf (val a * val a + val b * val b)) × (r ≤ 0x7ff0_0000_0000_0000) ⌝ }
+    ensures { λ r. ⌜ (ofBits binary64 r ≡ rootOfSum (val a * val a + val b * val b)) × (r ≤ 0x7ff0_0000_0000_0000) ⌝ }
 {
     let i = low(a);
     let j = low(b);

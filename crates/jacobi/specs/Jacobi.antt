@@ -21,13 +21,13 @@ unfoldable pub verdict : Bad → Bool → ℕ → Answer
 verdict b changed count = cond (isBad b) (marked 1 count b) (cond changed (goingAfter count) (done count))
 
 unfoldable pub swept : ℕ → ℕ → Answer × Vec → Answer × Vec
-swept rows cols x =
-    let y = sweep rows cols (x .1) in
-    (verdict (factorsBad rows cols (y .1)) (y .0) (x .0 .count + 1), y .1)
+swept rows cols (a, w) =
+    let y = sweep rows cols w in
+    (verdict (factorsBad rows cols (y .1)) (y .0) (a .count + 1), y .1)
 
 -- not `goingAfter`
 abbrev pub ended : Answer × Vec → Bool
-ended x = not (eqb (x .0 .answer) 9)
+ended (a, w) = not (eqb (a .answer) 9)
 
 -- sweeps until one ends the run, at most limit
 unfoldable pub sweeps : ℕ → ℕ → ℕ → Vec → Answer × Vec
@@ -35,9 +35,9 @@ sweeps rows cols limit w = rounds (swept rows cols) ended limit (goingAfter 0, w
 
 -- where the sweeps settled
 unfoldable pub finished : ℕ → ℕ → Answer × Vec → Answer × Vec
-finished rows cols x =
-    let w = normalised rows cols (x .1) in
-    (marked 2 (x .0 .count) (allBad rows cols w), w)
+finished rows cols (a, w) =
+    let y = normalised rows cols w in
+    (marked 2 (a .count) (allBad rows cols y), y)
 
 unfoldable pub jacobi : ℕ → ℕ → ℕ → Vec → Answer × Vec
 jacobi rows cols limit w =

@@ -6,7 +6,7 @@ use Prim.Native.Nat.{ℕ, _+_, _*_}
 use native.Mathlib.Omega.{arith}
 use lib.Dec.{ltb, eqb}
 use lib.ListN.{length}
-use Rattle.grid.specs.Real.{Vec, zeros}
+use Rattle.grid.specs.Real.{Vec}
 use Rattle.answers.specs.Answers.{done, refused, passed}
 use Rattle.answers.specs.OutcomeLaws.{few-early, old-kept}
 use Rattle.answers.specs.declared.Answer.{Answer}

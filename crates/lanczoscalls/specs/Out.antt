@@ -1,5 +1,5 @@
 -- Where the answer is 0, every number of the answer array is finite, and at most k pairs are found (`lanczos-finite-out`, `lanczos-pairs`). Laws only.
-use mathlib.Core.Path.{_≡_, refl, sym, ap, _∙_, subst}
+use mathlib.Core.Path.{_≡_, refl, sym, ap, subst}
 use mathlib.Core.Logic.{⊎-elim}
 use mathlib.Core.Bool.{Bool, true, false, cond}
 use mathlib.Core.List.{_++_}

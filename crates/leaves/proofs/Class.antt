@@ -1,7 +1,7 @@
 -- A number equals itself unless it is NaN.
 use mathlib.Core.Path.{_≡_, refl, sym, _∙_}
 use mathlib.Core.Bool.{Bool, true, false, true≢false}
-use Prim.Native.Nat.{ℕ, _*_}
+use Prim.Native.Nat.{_*_}
 use borrow.Author.Tests.{eq-eqb}
 use lib.Ieee.{Float, nan, inf, fin, eq, up, down}
 use Rattle.leaves.specs.Scan.{classOf}

@@ -10,6 +10,7 @@ use lib.Dec.{ltb, eqb}
 use lib.IntN.{ℤ, pos, negsuc}
 use lib.Pow.{pow-pos}
 use lib.Ieee.{Float, nan, inf, fin, lt, eq, le, up, down, below, level}
+use Rattle.grid.specs.LoopLaws.{both}
 use Rattle.leaves.specs.Leaf.{isFinite}
 
 -- a factor above 0 on both sides changes no comparison
@@ -124,17 +125,13 @@ le-of-not (fin s m e) nan f g p = absurd (true≢false (sym g))
 le-of-not (fin s m e) (inf t) f g p = absurd (true≢false (sym g))
 le-of-not (fin s m e) (fin t n d) f g p = level-le s (m * up e * down d) t (n * up d * down e) p
 
-both-true : (p q : Bool) → (p && q) ≡ true → (p ≡ true) × (q ≡ true)
-both-true true q e = (refl, e)
-both-true false q e = absurd (true≢false (sym e))
-
 level-not : (s : Bool) (a : ℕ) (t : Bool) (b : ℕ) → level s a t b ≡ true → below t b s a ≡ false
-level-not false a false b p = le-ltb b a (omega (arith, eqb-true a b (both-true (eqb a b) _ p .0)))
+level-not false a false b p = le-ltb b a (omega (arith, eqb-true a b (both (eqb a b) _ p .0)))
 level-not false a true b p =
-    let h = both-true (eqb a b) (eqb a 0) p in
+    let h = both (eqb a b) (eqb a 0) p in
     le-ltb 0 (b + a) (omega (arith, eqb-true a b (h .0), eqb-true a 0 (h .1)))
 level-not true a false b p = refl
-level-not true a true b p = le-ltb a b (omega (arith, eqb-true a b (both-true (eqb a b) _ p .0)))
+level-not true a true b p = le-ltb a b (omega (arith, eqb-true a b (both (eqb a b) _ p .0)))
 
 -- equal numbers are not below one another
 pub not-of-eq : (x y : Float) → eq x y ≡ true → lt y x ≡ false

@@ -1,9 +1,8 @@
 -- A list whose numbers are all finite, one that has a number that is not, and the first such. Definitions only.
 use mathlib.Core.Path.{_≡_}
-use mathlib.Core.Bool.{Bool, true, false, _&&_}
+use mathlib.Core.Bool.{true, false}
 use Prim.Native.Nat.{ℕ, _<_}
 use lib.ListN.{length}
-use Rattle.grid.specs.Loop.{upto}
 use Rattle.grid.specs.Real.{Vec, at}
 use lib.Ieee.{Float}
 use Rattle.leaves.specs.Leaf.{isFinite}
@@ -11,13 +10,6 @@ use Rattle.leaves.specs.Scan.{classOf}
 
 abbrev pub Finite : Vec → Type 0
 Finite d = (k : ℕ) → k < length d → isFinite (at d k) ≡ true
-
--- the same, looked at one by one
-abbrev pub allStep : Vec → ℕ → Bool → Bool
-allStep d k all = all && isFinite (at d k)
-
-unfoldable pub allFinite : Vec → Bool
-allFinite d = upto (allStep d) 0 (length d) true
 
 -- a number of d that is not finite
 abbrev pub NotFinite : Vec → Type 0

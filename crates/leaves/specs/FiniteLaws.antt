@@ -2,7 +2,7 @@
 use mathlib.Core.Path.{_≡_, refl, sym, ap, _∙_, subst}
 use mathlib.Core.Logic.{_⊎_, inl, inr}
 use mathlib.Core.List.{_++_}
-use mathlib.Core.Bool.{Bool, true, false, cond, true≢false}
+use mathlib.Core.Bool.{Bool, true, false, cond, _&&_, true≢false}
 use Prim.Native.Nat.{ℕ, zero, suc, _+_, _*_, _/_, _%_, _≤_, _<_}
 use native.Mathlib.Nat.{div-add-mod', mod-lt, div-lt-iff-lt-mul, div-mul-le-self, mul-div-cancel, mul-comm, zero-mul}
 use native.Mathlib.Decide.{ℕ-discrete}
@@ -12,6 +12,7 @@ use borrow.Author.Tests.{le-leb, leb-true}
 use lib.Ieee.{nan, ofBits}
 use lib.ListN.{length, length-append, List·getD-append}
 use lib.Seq.{getD-append-add}
+use Rattle.grid.specs.Loop.{upto}
 use Rattle.grid.specs.Real.{Vec, at, zero64}
 use Rattle.grid.specs.Cell.{at2, entry}
 use Rattle.grid.specs.CellLaws.{cell, place-row, place-column}
@@ -21,6 +22,13 @@ use Rattle.leaves.specs.Finite.{Finite, NotFinite}
 use Rattle.leaves.specs.Scan.{isBad, firstBad, firstBadLower, lowerOf, lowerAt, placeOf, cellAt, byRows}
 use Rattle.leaves.specs.ScanLaws.{scan-none, scan-fine, firstBad-none, firstBad-fine, not-bad, scan-both}
 use Rattle.leaves.specs.declared.Bad.the-variants.{Nowhere}
+
+-- that all are finite, looked at one by one
+abbrev pub allStep : Vec → ℕ → Bool → Bool
+allStep d k all = all && isFinite (at d k)
+
+unfoldable pub allFinite : Vec → Bool
+allFinite d = upto (allStep d) 0 (length d) true
 
 pub scan-finite : (d : Vec) → isBad (firstBad d) ≡ false → Finite d
 scan-finite d h = firstBad-none d (not-bad (firstBad d) h)

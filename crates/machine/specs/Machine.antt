@@ -6,7 +6,7 @@ use lib.Dec.{ltb, eqb}
 use Rattle.pass.specs.Pass.{going, pass}
 use Rattle.pass.specs.declared.Run.{Run}
 use Rattle.turnends.specs.TurnEnds.{State, closed}
-use Rattle.settled.specs.Settled.{goneOn, found}
+use Rattle.settled.specs.Settled.{goneOn, foundL}
 
 -- after a pass: more are to be run at this l
 unfoldable pub undecided : ℕ → Run → Bool
@@ -18,4 +18,4 @@ decided limit x = cond (undecided limit (x .0)) x (goneOn (closed x))
 
 -- one step: settled l are skipped, and one pass is run, none after the last l
 unfoldable pub step : ℕ → ℕ → ℕ → State → State
-step n limit edition x = cond (ltb (found n x .0 .l) n) (decided limit (pass n edition (found n x))) (found n x)
+step n limit edition x = cond (ltb (foundL n x .0 .l) n) (decided limit (pass n edition (foundL n x))) (foundL n x)

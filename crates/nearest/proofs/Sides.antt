@@ -1,7 +1,7 @@
 -- **hypot2-symmetric**: the two numbers may change places. **hypot2-zero**: beside a zero it is the other number's magnitude, exactly.
 use mathlib.Core.Path.{_≡_, refl, sym, ap, _∙_}
 use mathlib.Core.Bool.{Bool, false}
-use Prim.Native.Nat.{ℕ, zero, suc, _+_, _-_, _*_, _^_, _≤_, _<_}
+use Prim.Native.Nat.{ℕ, zero, _+_, _-_, _*_, _^_, _<_}
 use native.Mathlib.Nat.{add-comm, mul-comm, mul-assoc, le-of-eq, lt-of-le-of-lt, mul-lt-mul-of-pos-right}
 use native.Mathlib.Omega.{arith}
 use lib.Dec.{T}
@@ -12,12 +12,12 @@ use Rattle.grid.specs.Real.{zero64}
 use Rattle.root.specs.Root.{units}
 use Rattle.leaves.specs.Leaf.{magnitude}
 use Rattle.root.proofs.Whole.{sq-even}
-use Rattle.nearest.specs.Hypot2.{rootOf, hypot2}
+use Rattle.nearest.specs.Hypot2.{rootOfSum, hypot2}
 use Rattle.rounding.specs.Parts.{low, val}
-use Rattle.nearest.specs.Stretch.{Stretch, sq-lt}
+use Rattle.nearest.specs.Stretch.{sq-lt}
 use Rattle.nearest.specs.Rounds.{in-reach}
 use Rattle.nearest.specs.Working.{parts, under, itself}
-use Rattle.nearest.specs.Patterns.{bitsOf, positive-lt, unsigned, units-of, zero-units, of-two}
+use Rattle.nearest.specs.Patterns.{positive-lt, unsigned, units-of, zero-units}
 
 hypot2-symmetric : (x y : Float) → hypot2 x y ≡ hypot2 y x
 unfolding hypot2
@@ -29,10 +29,10 @@ hypot2-symmetric (inf s) (inf t) = refl
 hypot2-symmetric (inf s) (fin t n d) = refl
 hypot2-symmetric (fin s m e) nan = refl
 hypot2-symmetric (fin s m e) (inf t) = refl
-hypot2-symmetric (fin s m e) (fin t n d) = ap rootOf (add-comm (units (fin s m e) * units (fin s m e)) (units (fin t n d) * units (fin t n d)))
+hypot2-symmetric (fin s m e) (fin t n d) = ap rootOfSum (add-comm (units (fin s m e) * units (fin s m e)) (units (fin t n d) * units (fin t n d)))
 
 -- the root of a pattern's own square
-square : (a : ℕ) → a < 0x7ff0_0000_0000_0000 → ofBits binary64 a ≡ rootOf (val a * val a)
+square : (a : ℕ) → a < 0x7ff0_0000_0000_0000 → ofBits binary64 a ≡ rootOfSum (val a * val a)
 square a h =
     let w = parts a (low a) h refl in
     let u = val a in
@@ -63,9 +63,9 @@ unfolding hypot2 magnitude
 hypot2-beside-zero nan t d f = refl
 hypot2-beside-zero (inf s) t d f = refl
 hypot2-beside-zero (fin s m e) t d f =
-    ap (λ (v : ℕ). rootOf (units (fin s m e) * units (fin s m e) + v * v)) (zero-units d)
-    ∙ ap rootOf (none (units (fin s m e)))
-    ∙ ap (λ (u : ℕ). rootOf (u * u)) (units-of s m e f)
+    ap (λ (v : ℕ). rootOfSum (units (fin s m e) * units (fin s m e) + v * v)) (zero-units d)
+    ∙ ap rootOfSum (none (units (fin s m e)))
+    ∙ ap (λ (u : ℕ). rootOfSum (u * u)) (units-of s m e f)
     ∙ sym (square (toBits binary64 (fin false m e)) (positive-lt s m e f))
     ∙ ofBits-toBits binary64 (fin false m e) (unsigned s m e f)
   where

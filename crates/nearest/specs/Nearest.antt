@@ -20,7 +20,7 @@ use Rattle.root.proofs.Fields as fields
 use Rattle.root.proofs.Patterns.{no-nan}
 use Rattle.root.proofs.Worked.{digits, pattern-counted, units-inj}
 use Rattle.root.proofs.Neighbours.{val-step, val-mono, val-back, pattern-units}
-use Rattle.nearest.specs.Hypot2.{rootOf, hypot2}
+use Rattle.nearest.specs.Hypot2.{rootOfSum, hypot2}
 use Rattle.rounding.specs.Parts.{low, high, val, digit, bits, packed}
 use Rattle.nearest.specs.NearestEven.{squares, edge, Nearest, NearestEven}
 use Rattle.nearest.specs.Stretch.{Full, sq-lt}
@@ -226,10 +226,10 @@ unfolding packed
 packed-over k s t h = ap (λ (c : Bool). cond c (bits k s t) 0x7ff0_0000_0000_0000) (le-ltb (bits k s t) 0x7ff0_0000_0000_0000 h)
 
 module _ (n s k t : ℕ) (l : 4 * n < 4 ^ 2100) (w : Full n s k t) where
-  root-over : edge * edge ≤ n → rootOf n ≡ inf false
+  root-over : edge * edge ≤ n → rootOfSum n ≡ inf false
   root-over h = sym (rounds.rounds n s k t l w) ∙ ap (ofBits binary64) (packed-over k s t (at-edge n s k t w h)) ∙ infinity
 
-  root-under : n < edge * edge → Nearest n (rootOf n)
+  root-under : n < edge * edge → Nearest n (rootOfSum n)
   root-under h =
       let less : bits k s t < 0x7ff0_0000_0000_0000 = lt-of-not-le (λ (g : 0x7ff0_0000_0000_0000 ≤ bits k s t). not-le-of-lt h (past-edge n s k t w g)) in
       subst (λ (r : Float). Nearest n r) (ap (ofBits binary64) (sym (packed-under k s t less)) ∙ rounds.rounds n s k t l w) (nearest-bits n s k t w less)
@@ -242,7 +242,7 @@ val-lt b h =
 units-lt : (x : Float) → T (fits binary64 x) → T (finite x) → units x < 2 ^ 2098
 units-lt (fin s m e) f c = subst (λ (u : ℕ). u < 2 ^ 2098) (sym (units-of s m e f)) (val-lt (bitsOf (fin s m e)) (of-fin s m e f))
 
-of-squares : (x y : Float) → T (finite x) → T (finite y) → hypot2 x y ≡ rootOf (squares x y)
+of-squares : (x y : Float) → T (finite x) → T (finite y) → hypot2 x y ≡ rootOfSum (squares x y)
 of-squares (fin s m e) (fin t n d) f g = of-two s m e t n d
 
 pub hypot2-nearest : (x y : Float) → T (fits binary64 x) → T (fits binary64 y) → T (finite x) → T (finite y) → NearestEven x y (hypot2 x y)

@@ -14,7 +14,7 @@ use Rattle.leaves.specs.Leaf.{magnitude}
 use Rattle.root.proofs.Fields as fields
 use Rattle.root.proofs.Worked.{pattern, from-units}
 use Rattle.root.proofs.Neighbours.{pattern-units}
-use Rattle.nearest.specs.Hypot2.{rootOf, hypot2}
+use Rattle.nearest.specs.Hypot2.{rootOfSum, hypot2}
 use Rattle.rounding.specs.Parts.{low, high, val}
 use Rattle.nearest.specs.Rounds.{val-is}
 use Rattle.nearest.specs.Working.{parts}
@@ -128,18 +128,18 @@ nan-not-less h = go (bitsOf nan) of-nan h
     go : (a : ℕ) → a ≡ 0x7ff8_0000_0000_0000 → a < 0x7ff0_0000_0000_0000 → ⊥
     go a e h = omega arith
 
-pub of-two : (s : Bool) (m : ℕ) (e : _) (t : Bool) (n : ℕ) (d : _) → hypot2 (fin s m e) (fin t n d) ≡ rootOf (units (fin s m e) * units (fin s m e) + units (fin t n d) * units (fin t n d))
+pub of-two : (s : Bool) (m : ℕ) (e : _) (t : Bool) (n : ℕ) (d : _) → hypot2 (fin s m e) (fin t n d) ≡ rootOfSum (units (fin s m e) * units (fin s m e) + units (fin t n d) * units (fin t n d))
 unfolding hypot2
 of-two s m e t n d = refl
 
 pub both-finite : (x y : Float) → T (fits binary64 x) → T (fits binary64 y) → bitsOf x < 0x7ff0_0000_0000_0000 → bitsOf y < 0x7ff0_0000_0000_0000
-    → hypot2 x y ≡ rootOf (val (bitsOf x) * val (bitsOf x) + val (bitsOf y) * val (bitsOf y))
+    → hypot2 x y ≡ rootOfSum (val (bitsOf x) * val (bitsOf x) + val (bitsOf y) * val (bitsOf y))
 both-finite nan y f g h k = absurd (nan-not-less h)
 both-finite (inf s) y f g h k = absurd (inf-not-less s h)
 both-finite (fin s m e) nan f g h k = absurd (nan-not-less k)
 both-finite (fin s m e) (inf t) f g h k = absurd (inf-not-less t k)
 both-finite (fin s m e) (fin t n d) f g h k = at-last (fin s m e) (fin t n d) (units-of s m e f) (units-of t n d g) (of-two s m e t n d)
   where
-    at-last : (x y : Float) → units x ≡ val (bitsOf x) → units y ≡ val (bitsOf y) → hypot2 x y ≡ rootOf (units x * units x + units y * units y)
-        → hypot2 x y ≡ rootOf (val (bitsOf x) * val (bitsOf x) + val (bitsOf y) * val (bitsOf y))
-    at-last x y a b c = c ∙ ap (λ (u : ℕ). rootOf (u * u + units y * units y)) a ∙ ap (λ (u : ℕ). rootOf (val (bitsOf x) * val (bitsOf x) + u * u)) b
+    at-last : (x y : Float) → units x ≡ val (bitsOf x) → units y ≡ val (bitsOf y) → hypot2 x y ≡ rootOfSum (units x * units x + units y * units y)
+        → hypot2 x y ≡ rootOfSum (val (bitsOf x) * val (bitsOf x) + val (bitsOf y) * val (bitsOf y))
+    at-last x y a b c = c ∙ ap (λ (u : ℕ). rootOfSum (u * u + units y * units y)) a ∙ ap (λ (u : ℕ). rootOfSum (val (bitsOf x) * val (bitsOf x) + u * u)) b

@@ -1,4 +1,4 @@
--- `rootOf n`, which `round` makes of the middle of a short stretch that holds √n, is the double whose pattern `packed` works out from a longer stretch (`rounds`). Laws only.
+-- `rootOfSum n`, which `round` makes of the middle of a short stretch that holds √n, is the double whose pattern `packed` works out from a longer stretch (`rounds`). Laws only.
 use mathlib.Core.Path.{_≡_, refl, sym, ap, _∙_, subst}
 use mathlib.Core.Logic.{_⊎_, inl, inr}
 use Prim.Native.Nat.{ℕ, zero, suc, _+_, _-_, _*_, _/_, _%_, _^_, _≤_, _<_, compare, Ordering, Ordering·lt, Ordering·eq, Ordering·gt}
@@ -22,7 +22,7 @@ use Rattle.root.proofs.Rounds.{Cmp, cmp, nearest-down, nearest-up, closest-of, 
 use Rattle.root.proofs.Worked.{root-val, pattern-counted, units-are, units-inj, counted-of}
 use Rattle.root.proofs.Fields as fields
 use Rattle.root.proofs.Neighbours.{pattern-units}
-use Rattle.nearest.specs.Hypot2.{rootOf}
+use Rattle.nearest.specs.Hypot2.{rootOfSum}
 use Rattle.rounding.specs.Parts.{digit, bits, packed, rounded}
 use Rattle.nearest.specs.Over.{round-over, infinity}
 use Rattle.nearest.specs.Stretch.{Stretch, Full, halve}
@@ -182,7 +182,7 @@ kept-range k s t few all = (least all, omega (arith, digit-le (eqb t 0)))
 
 -- ---- the theorem
 
--- the last digit of what `rootOf` rounds says whether the whole root is the root
+-- the last digit of what `rootOfSum` rounds says whether the whole root is the root
 pub more : ℕ → ℕ → ℕ
 more a b = cond (eqb a b) 0 1
 
@@ -197,9 +197,9 @@ more-is a b = go (eqb a b) (eqb→eq a b) (λ (n : T (not (eqb a b))) (e : a ≡
     go true h k = (λ e. refl, λ l. absurd (differ a b (h tt) l), omega arith)
     go false h k = (λ e. absurd (k tt e), λ l. refl, omega arith)
 
-pub rootOf-is : (n : ℕ) → rootOf n ≡ round binary64 false (2 * whole 2100 (4 * n) + more (whole 2100 (4 * n) * whole 2100 (4 * n)) (4 * n)) (2 ^ 1076)
-unfolding rootOf more
-rootOf-is n = refl
+pub rootOfSum-is : (n : ℕ) → rootOfSum n ≡ round binary64 false (2 * whole 2100 (4 * n) + more (whole 2100 (4 * n) * whole 2100 (4 * n)) (4 * n)) (2 ^ 1076)
+unfolding rootOfSum more
+rootOfSum-is n = refl
 
 module _ (n s k t : ℕ) (w : Full n s k t) (S : ℕ) (is : Is (4 * n) S) where
   from : s * 2 ^ k ≤ S
@@ -262,15 +262,15 @@ module _ (n s k t : ℕ) (w : Full n s k t) (S : ℕ) (is : Is (4 * n) S) where
           let r = kept-range k s t (w .few) (w .all) in
           infinity ∙ sym (round-over (2 * S + more (S * S) (4 * n)) (2 ^ 1076) (le-trans (infinite k ((s + digit s t) / 2) (r .0) (r .1) (g tt)) (le-of-eq (sym grid-of))))
 
-pub rounds : (n s k t : ℕ) → 4 * n < 4 ^ 2100 → Full n s k t → ofBits binary64 (packed k s t) ≡ rootOf n
-rounds n s k t l w = rounds-to n s k t w (whole 2100 (4 * n)) (whole-is 2100 (4 * n) l) ∙ sym (rootOf-is n)
+pub rounds : (n s k t : ℕ) → 4 * n < 4 ^ 2100 → Full n s k t → ofBits binary64 (packed k s t) ≡ rootOfSum n
+rounds n s k t l w = rounds-to n s k t w (whole 2100 (4 * n)) (whole-is 2100 (4 * n) l) ∙ sym (rootOfSum-is n)
 
 -- with 55 digits
-pub rounds-more : (n s k t : ℕ) → 4 * n < 4 ^ 2100 → Stretch n s k t → s < 2 ^ 55 → (k ≡ 0) ⊎ (2 ^ 53 ≤ s) → ofBits binary64 (rounded k s t) ≡ rootOf n
+pub rounds-more : (n s k t : ℕ) → 4 * n < 4 ^ 2100 → Stretch n s k t → s < 2 ^ 55 → (k ≡ 0) ⊎ (2 ^ 53 ≤ s) → ofBits binary64 (rounded k s t) ≡ rootOfSum n
 unfolding rounded
 rounds-more n s k t l w few all = go (ltb s (2 ^ 54)) (ltb→lt s (2 ^ 54)) (nltb→le s (2 ^ 54))
   where
-    go : (b : Bool) → (T b → s < 2 ^ 54) → (T (not b) → 2 ^ 54 ≤ s) → ofBits binary64 (cond b (packed k s t) (packed (k + 1) (s / 2) (t + s % 2))) ≡ rootOf n
+    go : (b : Bool) → (T b → s < 2 ^ 54) → (T (not b) → 2 ^ 54 ≤ s) → ofBits binary64 (cond b (packed k s t) (packed (k + 1) (s / 2) (t + s % 2))) ≡ rootOfSum n
     go true h g = rounds n s k t l (record { stretch = w; few = h tt; all = all })
     go false h g =
         let a = g tt in

@@ -14,7 +14,7 @@ use Rattle.root.specs.School.{digits}
 use Rattle.root.specs.declared.Found.{Found}
 use Rattle.root.proofs.Whole.{sq-lt-back}
 use Rattle.root.proofs.School.{stands}
-use Rattle.nearest.specs.Hypot2.{rootOf}
+use Rattle.nearest.specs.Hypot2.{rootOfSum}
 use Rattle.rounding.specs.Parts.{low, val, bits, packed, rounded}
 use Rattle.nearest.specs.Stretch.{Stretch, made, far, reached}
 use Rattle.nearest.specs.Rounds.{finite, rounds, rounds-more, in-reach}
@@ -86,7 +86,7 @@ small s r lost p a b c d = omega arith
 -- ---- the result
 
 -- the pattern itself, where the stretch begins at twice its significand
-pub itself : (a i n t : ℕ) → a < 0x7ff0_0000_0000_0000 → Parts a i (a - i * 2 ^ 52) → 4 * n < 4 ^ 2100 → Stretch n (2 * (a - i * 2 ^ 52)) i t → ofBits binary64 a ≡ rootOf n
+pub itself : (a i n t : ℕ) → a < 0x7ff0_0000_0000_0000 → Parts a i (a - i * 2 ^ 52) → 4 * n < 4 ^ 2100 → Stretch n (2 * (a - i * 2 ^ 52)) i t → ofBits binary64 a ≡ rootOfSum n
 unfolding packed
 itself a i n t top w reach st =
     let m = a - i * 2 ^ 52 in
@@ -125,12 +125,12 @@ module _ (a b i j : ℕ) (order : b ≤ a) (top : a < 0x7ff0_0000_0000_0000) (ia
   unfolding sum-of
   reach = in-reach _ _ (under a i (a - i * 2 ^ 52) top pa) (under b j (b - j * 2 ^ 52) (lt-of-le-of-lt order top) pb)
 
-  pub far-off : 27 ≤ i - j → ofBits binary64 a ≡ rootOf (val a * val a + val b * val b)
+  pub far-off : 27 ≤ i - j → ofBits binary64 a ≡ rootOfSum (val a * val a + val b * val b)
   unfolding sum-of
   far-off gap =
       let m = a - i * 2 ^ 52 in
       let lo : 2 ^ 52 ≤ m = full (pa .all) in
-      itself a i sum-of _ top pa reach (far m (b - j * 2 ^ 52) i j lo (pb .few) (omega arith)) ∙ ap rootOf sum-is
+      itself a i sum-of _ top pa reach (far m (b - j * 2 ^ 52) i j lo (pb .few) (omega arith)) ∙ ap rootOfSum sum-is
     where
       full : (i ≡ 0) ⊎ (2 ^ 52 ≤ a - i * 2 ^ 52) → 2 ^ 52 ≤ a - i * 2 ^ 52
       full (inl z) = absurd (omega arith)
@@ -139,14 +139,14 @@ module _ (a b i j : ℕ) (order : b ≤ a) (top : a < 0x7ff0_0000_0000_0000) (ia
   pub near : (h l lost p s r : ℕ) → i - j < 27 → j ≤ i → p ≡ 2 ^ (i - j) * 2 ^ (i - j)
       → (h * 2 ^ 56 + l) * p + lost ≡ 4 * ((a - i * 2 ^ 52) * (a - i * 2 ^ 52) * p + (b - j * 2 ^ 52) * (b - j * 2 ^ 52)) → lost < p → h < 2 ^ 54 → l < 2 ^ 56
       → s * s + r ≡ h * 2 ^ 56 + l → r ≤ 2 * s
-      → ofBits binary64 (rounded i s (r + lost)) ≡ rootOf (val a * val a + val b * val b)
+      → ofBits binary64 (rounded i s (r + lost)) ≡ rootOfSum (val a * val a + val b * val b)
   unfolding sum-of
   near h l lost p s r gap le pd e less H L whole rest =
       let m = a - i * 2 ^ 52 in
       let n = b - j * 2 ^ 52 in
       let w : Stretch sum-of s i (r + lost) = made m n i j (i - j) p (h * 2 ^ 56 + l) lost s r (omega arith) pd e less whole rest in
       rounds-more sum-of s i (r + lost) reach w (root-lt h l s r whole H L) (full (pa .all) (reached sum-of s i (r + lost) m w (below _ _)))
-      ∙ ap rootOf sum-is
+      ∙ ap rootOfSum sum-is
     where
       below : (x y : ℕ) → x ≤ x + y
       below x y = omega arith

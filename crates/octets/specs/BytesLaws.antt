@@ -7,7 +7,7 @@ use native.Mathlib.Numerals.{add-one}
 use native.Mathlib.Omega.{arith}
 use lib.ListN.{length, getD, take, drop, length-append, length-drop}
 use lib.Seq.{take-at, drop-at, take-suc, getD-drop, length-take-le, take-add, drop-drop}
-use Rattle.octets.specs.Bytes.{be, three, wordsBytes, byte, num, wordsAt}
+use Rattle.octets.specs.Bytes.{be, three, wordsBytes, byte, num, wordsAt, Bytes}
 
 -- ---- lists
 
@@ -55,9 +55,6 @@ num8 t at a b p q =
     let e : at + 4 + 3 ≡ at + 7 = omega arith in
     let low : b ≡ ((byte t (at + 4) * 256 + byte t (at + 5)) * 256 + byte t (at + 6)) * 256 + byte t (at + 7) = rw (← c, ← d, ← e) (q ∙ num4 t (at + 4)) in
     rw (add-zero at) (omega (arith, p ∙ num4 t at, low))
-
-abbrev pub Bytes : List ℕ → Type 0
-Bytes t = (i : ℕ) → byte t i < 256
 
 pub num-bound : (t : List ℕ) (at k : ℕ) → Bytes t → num k t at < 256 ^ k
 unfolding num

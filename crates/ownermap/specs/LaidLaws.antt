@@ -1,12 +1,13 @@
 -- What is known of arrays that a set-up of two owners left, and of an owner's parts of them. Laws only.
 use mathlib.Core.Path.{_≡_, refl, sym, _∙_}
-use mathlib.Core.Bool.{Bool, true, false, cond, not, _&&_, true≢false}
+use mathlib.Core.Bool.{Bool, true, false, cond, not}
 use mathlib.Core.List.{List}
 use Prim.Native.Nat.{ℕ, zero, suc, _+_, _-_, _≤_, _<_}
 use native.Mathlib.Omega.{arith}
 use borrow.Author.Tests.{leb-true, leb-false, eqb-true, le-leb, lt-leb, eq-eqb}
 use lib.Dec.{leb, eqb}
 use lib.ListN.{length}
+use Rattle.grid.specs.LoopLaws.{both}
 use Rattle.storemap.specs.Store.{roomOf}
 use Rattle.ownermap.specs.Owners.{quotaOf, startFor, listed2, laid, barred}
 
@@ -16,10 +17,6 @@ pub record Laid (list tiles bytes : List ℕ) : Type 0 where
   pub small : roomOf list ≤ 65536
   pub whole : length bytes ≡ roomOf list
   pub fitting : quotaOf 0 list + quotaOf 1 list ≤ roomOf list
-
-both : (a b : Bool) → a && b ≡ true → (a ≡ true) × (b ≡ true)
-both true b e = (refl, e)
-both false b e = absurd (true≢false (sym e))
 
 module _ (list tiles : List ℕ) (e : listed2 list tiles ≡ true) where
   pub listed2-lists : length list ≡ 69

@@ -1,14 +1,11 @@
 -- The promises of the owners' calls determine the outcome: two that satisfy one are the same. Laws only.
-use mathlib.Core.Path.{_≡_, sym, _∙_}
+use mathlib.Core.Path.{_≡_}
 use mathlib.Core.List.{List}
 use Prim.Native.Nat.{ℕ}
 use Rattle.answers.specs.declared.Answer.{Answer}
+use Rattle.answers.specs.OutcomeLaws.{one-outcome}
 use Rattle.storemap.specs.Store.{Outcome}
 use Rattle.ownermap.specs.Owners.{setUp2, reset, putFor, lengthFor, fetchFor, dropFor}
-
--- of any promise that is one equation
-one-outcome : {A : Type 0} (x o p : A) → o ≡ x → p ≡ x → o ≡ p
-one-outcome x o p e f = e ∙ sym f
 
 module _ (list tiles bytes : List ℕ) where
   pub set-up2-one : (quota0 quota1 : ℕ) (o p : Answer × List ℕ) → o ≡ setUp2 list tiles bytes quota0 quota1 → p ≡ setUp2 list tiles bytes quota0 quota1 → o ≡ p

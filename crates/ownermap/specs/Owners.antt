@@ -67,11 +67,11 @@ module _ (owner : ℕ) (list tiles bytes : List ℕ) where
 
   -- an outcome of the owner's store, put back
   abbrev pub back : Outcome → Outcome
-  back o = (
-    o .0,
-    patched list (1 + owner * 34) 34 (o .1),
-    patched tiles (owner * 32) 32 (o .2),
-    patched bytes (startFor owner list) (quotaOf owner list) (o .3),
+  back (a, l, t, b) = (
+    a,
+    patched list (1 + owner * 34) 34 l,
+    patched tiles (owner * 32) 32 t,
+    patched bytes (startFor owner list) (quotaOf owner list) b,
   )
 
   unfoldable pub putFor : ℕ → List ℕ → Outcome

@@ -1,6 +1,6 @@
 // One QL pass of `tql2`: the QL transformation, mark 1 and the convergence test.
 ghost use mathlib.Core.Path.{_≡_};
-ghost use Prim.Native.Nat.{_+_, _*_, _<_, _≤_, _^_};
+ghost use Prim.Native.Nat.{_+_, _*_, _<_, _^_};
 ghost use lib.ListN.{length};
 ghost use Rattle.grid.specs.CellLaws.{Sized};
 ghost use Rattle.pass.specs.Pass.{mark1, settled, judged, verdict, pass};

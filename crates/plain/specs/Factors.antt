@@ -14,7 +14,6 @@ use Rattle.grid.specs.Real.{Vec, at}
 use Rattle.grid.specs.CellLaws.{cell, one-place, upto-long}
 use Rattle.answers.specs.Answers.{least, present, decompositionLength}
 use Rattle.answers.specs.OutcomeLaws.{present-is}
-use Rattle.order.specs.Order.{order}
 use Rattle.sorted.specs.Result.{longest, cellStep, columnOut, sortStep, factorOut, offset, sortedOut}
 use Rattle.plain.specs.Exact.{orderOf, uCell, vtCell, uFactor, vFactor}
 

@@ -11,7 +11,7 @@ use Rattle.answers.specs.Answers.{passed, refusal7}
 use Rattle.answers.specs.Early.{Early}
 use Rattle.answers.specs.OutcomeLaws.{refuse-few, unless-few, old}
 use Rattle.answers.specs.declared.Answer.{Answer}
-use Rattle.checks.specs.Checks.{limitGood, lengths}
+use Rattle.checks.specs.Checks.{limitGood}
 use Rattle.checks.specs.ChecksLaws.{lengths-few}
 use Rattle.svd.specs.Svd.{checks, ran, svd}
 use Rattle.plain.specs.Exact.{Outcome}

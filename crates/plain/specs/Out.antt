@@ -5,7 +5,7 @@ use Prim.Native.Nat.{ℕ, zero, suc, _+_, _*_, _-_, _/_, _%_, _≤_, _<_}
 use native.Mathlib.Nat.{div-add-mod', mod-lt, div-lt-iff-lt-mul, mul-comm}
 use native.Mathlib.Decide.{ℕ-discrete, decLt}
 use native.Mathlib.Omega.{arith}
-use borrow.Author.Tests.{ltb-true, ltb-false, leb-true, leb-false, le-leb, lt-ltb, ne-eqb, eq-eqb}
+use borrow.Author.Tests.{le-leb, lt-ltb, ne-eqb, eq-eqb}
 use lib.Dec.{ltb, leb}
 use lib.Ieee.{nan}
 use lib.ListN.{length, take, drop, getD, length-replicate}
@@ -23,7 +23,7 @@ use Rattle.row.specs.declared.Span.the-variants.{At}
 use Rattle.sorted.specs.Result.{longest, offset, sortedOut}
 use Rattle.svd.specs.Svd.{svd}
 use Rattle.row.specs.Row.{vtAt, rowSpan, partOf}
-use Rattle.sorted.specs.Known.{wide-longest, tall-longest, wide-least, tall-least}
+use Rattle.sorted.specs.Known.{Side, left-side, right-side}
 use Rattle.plain.specs.Document.{plainWork, valueOf, plainSvd}
 use Rattle.plain.specs.Exact.{Taken, orderOf, uCell, vtCell, uFactor, vFactor}
 use Rattle.plain.specs.ExactLaws.{taken-of}
@@ -90,33 +90,21 @@ module _ (m n wantU wantVt limit : ℕ) (matrix work result : Vec) (z : svd m n 
   column-at : (k : ℕ) → k < least m n → getD (orderOf m n (plainWork m n matrix)) k 0 < least m n
   column-at k q = order-below (valueOf m n (plainWork m n matrix)) (least m n) small k q
 
+  factor-finite : (t : Bool) (rows i p : ℕ) → Side m n t rows → i < rows → p < least m n
+      → isFinite (at (plainWork m n matrix) (offset t (longest m n * least m n) + p * rows + i)) ≡ true
+  factor-finite true rows i p s a b =
+      let r = s .second refl in
+      subst (λ (j : ℕ). isFinite (at (plainWork m n matrix) j) ≡ true) (omega arith)
+      (whole .factors .second (p * rows + i) (rw r (cell rows rows p i (omega arith) a)))
+  factor-finite false rows i p s a b =
+      subst (λ (j : ℕ). isFinite (at (plainWork m n matrix) j) ≡ true) (omega arith)
+      (whole .factors .first (p * rows + i) (rw (s .first refl, mul-comm rows (least m n)) (cell (least m n) rows p i b a)))
+
   u-finite : (i p : ℕ) → i < m → p < least m n → isFinite (uFactor m n (plainWork m n matrix) i p) ≡ true
-  u-finite i p a b = go (ltb m n) refl
-    where
-      go : (t : Bool) → ltb m n ≡ t → isFinite (at (plainWork m n matrix) (offset t (longest m n * least m n) + p * m + i)) ≡ true
-      go true e =
-          let r : least m n ≡ m = wide-least m n (ltb-true m n e) in
-          subst (λ (j : ℕ). isFinite (at (plainWork m n matrix) j) ≡ true) (omega arith)
-          (whole .factors .second (p * m + i) (rw r (cell m m p i (omega arith) a)))
-      go false e =
-          let r : least m n ≡ n = tall-least m n (ltb-false m n e) in
-          let l : longest m n ≡ m = tall-longest m n (ltb-false m n e) in
-          subst (λ (j : ℕ). isFinite (at (plainWork m n matrix) j) ≡ true) (omega arith)
-          (whole .factors .first (p * m + i) (rw (r, l, mul-comm m n) (cell n m p i (omega arith) a)))
+  u-finite i p = factor-finite (ltb m n) m i p (left-side m n)
 
   v-finite : (j p : ℕ) → j < n → p < least m n → isFinite (vFactor m n (plainWork m n matrix) j p) ≡ true
-  v-finite j p a b = go (leb n m) refl
-    where
-      go : (t : Bool) → leb n m ≡ t → isFinite (at (plainWork m n matrix) (offset t (longest m n * least m n) + p * n + j)) ≡ true
-      go true e =
-          let r : least m n ≡ n = tall-least m n (leb-true n m e) in
-          subst (λ (i : ℕ). isFinite (at (plainWork m n matrix) i) ≡ true) (omega arith)
-          (whole .factors .second (p * n + j) (rw r (cell n n p j (omega arith) a)))
-      go false e =
-          let r : least m n ≡ m = wide-least m n (leb-false n m e) in
-          let l : longest m n ≡ n = wide-longest m n (leb-false n m e) in
-          subst (λ (i : ℕ). isFinite (at (plainWork m n matrix) i) ≡ true) (omega arith)
-          (whole .factors .first (p * n + j) (rw (r, l, mul-comm n m) (cell m n p j (omega arith) a)))
+  v-finite j p = factor-finite (leb n m) n j p (right-side m n)
 
   -- **svd-finite-out**: the values, U and V^T, so far as they are wanted
   pub svd-finite-out : (x : ℕ) → x < decompositionLength m n wantU wantVt → isFinite (at (svd m n wantU wantVt limit matrix work result .2) x) ≡ true

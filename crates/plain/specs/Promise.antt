@@ -1,14 +1,14 @@
 -- What follows from a call's promise: it leaves one outcome (T2), its marks and its limit only stop (T5), and its order is the stable descending one (T7). Laws only.
 use mathlib.Core.Path.{_≡_, sym, ap, _∙_, subst}
-use mathlib.Core.Bool.{true, cond}
-use Prim.Native.Nat.{ℕ, _+_, _*_, _<_}
+use mathlib.Core.Bool.{true}
+use Prim.Native.Nat.{ℕ, _<_}
 use native.Mathlib.Omega.{arith}
 use borrow.Author.Tests.{eq-eqb}
 use lib.Ieee.{le}
 use lib.ListN.{getD, length-replicate}
 use Rattle.grid.specs.Real.{Vec, at, zeros, zero64}
 use Rattle.leaves.specs.Leaf.{isFinite}
-use Rattle.answers.specs.Answers.{passed, least, decompositionLength}
+use Rattle.answers.specs.Answers.{least, decompositionLength}
 use Rattle.answers.specs.AnswersLaws.{least-le}
 use Rattle.answers.specs.declared.Answer.{Answer}
 use Rattle.jacobi.specs.Jacobi.{jacobi}
@@ -16,7 +16,7 @@ use Rattle.plain.specs.Told.{Whole}
 use Rattle.plain.specs.ToldLaws.{jacobi-whole, jacobi-plain}
 use Rattle.order.specs.Order.{order}
 use Rattle.plain.specs.Sorted.{order-sorted}
-use Rattle.sorted.specs.Result.{longest, sortedOut}
+use Rattle.sorted.specs.Result.{longest}
 use Rattle.svd.specs.Svd.{svd}
 use Rattle.plain.specs.Document.{plainWork, valueOf, plainSvd, Sorted}
 use Rattle.plain.specs.Exact.{Outcome, Promised, Taken, begun, given}

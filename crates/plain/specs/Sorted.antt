@@ -1,19 +1,19 @@
 -- T7: the order is the stable descending one. Laws only.
 -- Counting gives each column a place of its own, before every column that comes after it; and as many places as columns leave none free.
 use mathlib.Core.Path.{_≡_, refl, sym, ap, _∙_}
-use mathlib.Core.Bool.{Bool, true, false, cond, not, _||_, _&&_, true≢false}
+use mathlib.Core.Bool.{Bool, true, false, cond, true≢false}
 use mathlib.Core.List.{List}
 use Prim.Native.Nat.{ℕ, zero, suc, _+_, _<_, _≤_}
 use native.Mathlib.Omega.{arith}
 use borrow.Author.Tests.{ltb-true, ltb-false, lt-ltb, eqb-true, eqb-false}
 use lib.Dec.{ltb, eqb}
-use lib.Ieee.{Float, lt, eq, le}
+use lib.Ieee.{Float, lt}
 use lib.ListN.{length, set, getD, replicate, length-set, length-replicate}
 use lib.Seq.{getD-set-same, getD-set-other}
 use Rattle.grid.specs.LoopLaws.{upto-both}
 use Rattle.leaves.specs.Leaf.{isFinite}
 use Rattle.order.specs.Order.{ahead, one, rank, noteStep, noted, order}
-use Rattle.order.specs.Rank.{Below, total, total-none, total-more, one-le, ahead-self, rank-total, rank-lt, order-below}
+use Rattle.order.specs.Rank.{total, total-none, total-more, ahead-self, rank-total, rank-lt, order-below}
 use Rattle.plain.specs.Document.{Sorted}
 use Rattle.leaves.specs.Compare.{lt-chain, lt-turn, le-of-not, not-of-eq}
 

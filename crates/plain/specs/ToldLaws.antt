@@ -13,7 +13,7 @@ use lib.Seq.{getD-take, getD-drop, length-take-le, take-all}
 use Rattle.grid.specs.Loop.{rounds}
 use Rattle.grid.specs.Real.{Vec, at}
 use Rattle.leaves.specs.Leaf.{isFinite}
-use Rattle.leaves.specs.Scan.{firstBad, byRows, isBad}
+use Rattle.leaves.specs.Scan.{byRows, isBad}
 use Rattle.leaves.specs.Finite.{Finite, First}
 use Rattle.leaves.specs.FiniteLaws.{scan-finite, finite-scan, cells-finite, finite-rows, both-finite, finite-both}
 use Rattle.leaves.specs.ScanLaws.{scan-first, first-once, first-class, fine-no-first}

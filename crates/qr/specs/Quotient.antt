@@ -1,7 +1,7 @@
 -- A number whose square is finite, over a finite number above EPSILON, is finite: the quotient is below 2 ^ 104 or not above the square. Laws only.
 use mathlib.Core.Path.{_≡_, refl, sym, ap, _∙_, subst}
 use mathlib.Core.Bool.{Bool, true, false, cond, true≢false}
-use Prim.Native.Nat.{ℕ, zero, suc, _+_, _*_, _-_, _^_, _≤_, _<_}
+use Prim.Native.Nat.{ℕ, zero, suc, _+_, _*_, _^_, _≤_, _<_}
 use native.Mathlib.Nat.{mul-le-mul, mul-assoc, mul-comm, mul-left-comm, mul-pos, mul-one, zero-mul, le-refl, le-trans, le-of-lt, le-of-eq}
 use native.Mathlib.Decide.{decLt}
 use native.Mathlib.Omega.{arith}

@@ -2,17 +2,16 @@
 use mathlib.Core.Path.{_≡_, refl, sym, ap, _∙_, subst}
 use mathlib.Core.Logic.{_⊎_, inl, inr}
 use Prim.Native.Nat.{ℕ, zero, suc, _+_, _-_, _*_, _/_, _%_, _^_, _≤_, _<_}
-use native.Mathlib.Nat.{lt-irrefl, zero-mul, mul-pos, mul-one, mod-eq-of-lt, zero-lt-suc, eq-or-lt-of-le, le-of-suc-le-suc, le-refl, sub-self}
+use native.Mathlib.Nat.{lt-irrefl, zero-mul, mul-pos, mul-one, mod-eq-of-lt, eq-or-lt-of-le, le-of-suc-le-suc}
 use native.Mathlib.Omega.{arith}
-use mathlib.Core.Bool.{Bool, true, false, not, cond, true≢false, Bool·beq, _&&_}
+use mathlib.Core.Bool.{Bool, true, false, not, cond, true≢false}
 use borrow.Author.Tests.{lt-ltb, le-ltb, le-leb, lt-leb, ne-eqb, ltb-false}
-use lib.IntN.{ℤ}
 use lib.Dec.{T, leb, ltb, eqb}
 use lib.Pow.{pow-pos}
-use lib.Ieee.{Float, round, sum, sub, eq, level, nan, inf, fin, binary64, up, down, odd, ofFields, ofBits, toBits, fits, isNan, nanBits}
-use lib.Ieee.Fits.{down-pos, up-pos}
+use lib.Ieee.{Float, nan, inf, fin, binary64, up, down, odd, ofFields, ofBits, toBits, fits, isNan, nanBits}
+use lib.Ieee.Fits.{down-pos}
 use lib.Ieee.Bits.{nanBits-is, nanBits-above, ofBits-toBits}
-use lib.Ieee.Exact.{HasValue, odd-sign, round-exact}
+use lib.Ieee.Exact.{HasValue, odd-sign}
 use lib.Ieee.Positive.{positive, positive-of-value}
 use Rattle.root.specs.Root.{root}
 use Rattle.root.proofs.Fields.{val}

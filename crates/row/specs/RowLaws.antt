@@ -2,7 +2,6 @@
 use mathlib.Core.Path.{_≡_}
 use Prim.Native.Nat.{ℕ, _+_, _*_, _≤_, _<_}
 use native.Mathlib.Omega.{arith}
-use lib.Dec.{eqb}
 use Rattle.grid.specs.TableLaws.{row-end}
 use Rattle.answers.specs.Answers.{least, present, decompositionLength}
 use Rattle.answers.specs.OutcomeLaws.{present-is}

@@ -1,7 +1,7 @@
 -- What the checks leave of a run still going. Laws only.
 -- `Open` is what the code asks of a run that it moves on; no public promise cites it.
-use mathlib.Core.Path.{_≡_, refl, sym, _∙_}
-use mathlib.Core.Bool.{Bool, true, false, not, _&&_, _||_, true≢false}
+use mathlib.Core.Path.{_≡_, sym, _∙_}
+use mathlib.Core.Bool.{Bool, true, false, not, _||_, true≢false}
 use Prim.Native.Nat.{ℕ, _+_, _-_, _*_, _≤_, _<_, _^_}
 use native.Mathlib.Nat.{mul-le-mul}
 use native.Mathlib.Omega.{arith}
@@ -10,6 +10,7 @@ use lib.Dec.{ltb, leb, eqb}
 use lib.ListN.{length, take, drop, length-drop}
 use lib.Seq.{take-all}
 use Rattle.grid.specs.Real.{Vec}
+use Rattle.grid.specs.LoopLaws.{both}
 use Rattle.checks.specs.Checks.{limitGood, editionGood}
 use Rattle.checks.specs.ChecksLaws.{limit-right}
 use Rattle.pass.specs.declared.Run.{Run}
@@ -25,10 +26,6 @@ pub record Open (n limit : ℕ) (r : Run) : Type 0 where
   pub counted : r .passes ≤ r .count
   pub bounded : r .count ≤ r .l * limit + r .passes
   pub unmarked : r .index ≡ 0
-
-both : (a b : Bool) → (a && b) ≡ true → (a ≡ true) × (b ≡ true)
-both true b h = (refl, h)
-both false b h = absurd (true≢false (sym h))
 
 either : (a b : Bool) → (a || b) ≡ true → (a ≡ false → b ≡ true)
 either true b h q = absurd (true≢false q)

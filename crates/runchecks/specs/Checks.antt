@@ -33,7 +33,7 @@ sound n r work result =
     le zero64 (r .tst1)
     && (eq (at work (n - 1)) zero64 && (not (isBad (firstBad (part (r .l) n result))) && not (isBad (firstBad (drop (r .l) work)))))
 
--- 6, its place 0 for work and 1 for the result; then 13; or the pass
+-- 6, its place 0 for work and 1 for the result; then 13; or done
 unfoldable pub checked : ℕ → ℕ → ℕ → Run → Vec → Vec → Answer
 checked n limit edition r work result =
     let x = lengths (length work) n (length result) (n + n * n) 0 0 in

@@ -83,7 +83,7 @@ fn sound(n: usize, r: Run, work: &[f64], result: &[f64]) -> bool
     !is_bad(first_bad(&work[l..]))
 }
 
-// Refusal 6 or 13 of a run still going, or the pass.
+// Refusal 6 or 13 of a run still going, or done.
 pub fn checked(
     n: usize,
     limit: usize,

@@ -1,19 +1,18 @@
 -- Where all of a list is finite, no scan finds anything. Laws only.
-use mathlib.Core.Path.{_≡_, refl, sym, ap, _∙_}
+use mathlib.Core.Path.{_≡_, refl, sym, _∙_}
 use mathlib.Core.Bool.{Bool, true, false, cond, _&&_, true≢false}
 use mathlib.Core.Logic.{⊎-elim}
-use Prim.Native.Nat.{ℕ, _+_, _<_, _≤_}
+use Prim.Native.Nat.{ℕ, _+_, _<_}
 use native.Mathlib.Nat.{eq-or-lt-of-le}
 use native.Mathlib.Omega.{arith}
 use lib.Dec.{leb}
 use lib.Ieee.{Float, ofBits}
 use lib.ListN.{length}
-use Rattle.grid.specs.Loop.{upto}
 use Rattle.grid.specs.LoopLaws.{upto-both}
 use Rattle.grid.specs.Real.{Vec, at, zero64}
 use Rattle.leaves.specs.Leaf.{isFinite}
-use Rattle.leaves.specs.Finite.{Finite, allStep, allFinite}
-use Rattle.leaves.specs.FiniteLaws.{finite-rows}
+use Rattle.leaves.specs.Finite.{Finite}
+use Rattle.leaves.specs.FiniteLaws.{finite-rows, allStep, allFinite}
 use Rattle.leaves.specs.Scan.{firstBad, lowerOf, lowerAt, placeOf, firstBadLower, byRows}
 use Rattle.leaves.specs.ScanLaws.{scan-fine, firstBad-fine}
 use Rattle.leaves.specs.declared.Bad.the-variants.{Nowhere}

@@ -3,7 +3,7 @@ ghost use mathlib.Core.Path.{_≡_};
 ghost use mathlib.Core.List.{_++_};
 ghost use Prim.Native.Nat.{_+_, _*_, _^_, _≤_, _<_};
 ghost use lib.ListN.{length};
-ghost use Rattle.leaves.specs.Finite.{allFinite};
+ghost use Rattle.leaves.specs.FiniteLaws.{allFinite};
 ghost use Rattle.leaves.specs.Scan.{firstBad, lowerOf, firstBadLower, byRows};
 ghost use Rattle.leaves.specs.ScanLaws.{after, firstBadOf, behind, Room};
 use grid::at1;

@@ -28,5 +28,5 @@ skipped n zero x = x
 skipped n (suc k) x = cond (ended (come n x)) (skipped n k (goneOn (closed (come n x)))) (come n x)
 
 -- the l whose passes are to be run: the one that is worked on, or the next that has not settled
-unfoldable pub found : ℕ → State → State
-found n x = cond (eqb (x .0 .passes) 0) (skipped n (n - x .0 .l) x) x
+unfoldable pub foundL : ℕ → State → State
+foundL n x = cond (eqb (x .0 .passes) 0) (skipped n (n - x .0 .l) x) x

@@ -11,7 +11,7 @@ use Rattle.grid.specs.Real.{Vec, zero64, at, _⊕_}
 use Rattle.pass.specs.declared.Run.{Run}
 use Rattle.turnends.specs.TurnEnds.{State, opened, ended, released, stopping, closed}
 use Rattle.turnends.specs.Bounds.{split-below}
-use Rattle.settled.specs.Settled.{nextL, onward, goneOn, come, skipped, found}
+use Rattle.settled.specs.Settled.{nextL, onward, goneOn, come, skipped, foundL}
 use Rattle.runchecks.specs.CheckLaws.{Open}
 
 -- ---- a run that has ended, and one that goes on
@@ -148,8 +148,8 @@ module _ (n limit : ℕ) (P : State → Type 0) (leaves : (x : State) → x .0 .
             comes x b,
           )
 
-  pub found-found : (x : State) → Open n limit (x .0) → P x → Found n limit x (found n x) × P (found n x)
-  unfolding found
+  pub found-found : (x : State) → Open n limit (x .0) → P x → Found n limit x (foundL n x) × P (foundL n x)
+  unfolding foundL
   found-found x o b = go (eqb (x .0 .passes) 0) refl
     where
       go : (t : Bool) → eqb (x .0 .passes) 0 ≡ t → Found n limit x (cond t (skipped n (n - x .0 .l) x) x) × P (cond t (skipped n (n - x .0 .l) x) x)
@@ -157,7 +157,7 @@ module _ (n limit : ℕ) (P : State → Type 0) (leaves : (x : State) → x .0 .
       go false t = (record { opens = o; above = λ q. o .above (eqb-false _ _ t); count = refl }, b)
 
 -- the run alone
-pub found-open : (n limit : ℕ) (x : State) → Open n limit (x .0) → Found n limit x (found n x)
+pub found-open : (n limit : ℕ) (x : State) → Open n limit (x .0) → Found n limit x (foundL n x)
 found-open n limit x o = found-found n limit (λ y. 0 ≤ 0) (λ y h p. p) (λ y p. p) x o (omega arith) .0
 
 -- ---- the loop that skips: r is the run at its head, q has come to r's l, z has its value, w goes on
@@ -228,7 +228,7 @@ module _ (n : ℕ) (r q : Run) (v d e : Vec) (h : r .l < n) (g : q ≡ opened n 
 
 -- ---- before a pass
 
-pub found-ready : (n limit : ℕ) (r q : Run) (v d e d′ e′ : Vec) → _≡_ {A = State} (q, v, d′, e′) (found n (r, v, d, e)) → Open n limit r
+pub found-ready : (n limit : ℕ) (r q : Run) (v d e d′ e′ : Vec) → _≡_ {A = State} (q, v, d′, e′) (foundL n (r, v, d, e)) → Open n limit r
     → Open n limit q × (q .l < n → q .l < q .m)
 found-ready n limit r q v d e d′ e′ g o =
     let f = found-open n limit (r, v, d, e) o in

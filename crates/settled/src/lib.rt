@@ -3,7 +3,7 @@ ghost use mathlib.Core.Path.{_≡_};
 ghost use Prim.Native.Nat.{_+_, _-_, _<_, _≤_, _^_};
 ghost use lib.ListN.{length};
 ghost use Rattle.grid.specs.Real.{Vec};
-ghost use Rattle.settled.specs.Settled.{onward, skipped, found};
+ghost use Rattle.settled.specs.Settled.{onward, skipped, foundL};
 use pass::Run;
 use turnends::begin;
 use turnends::close;
@@ -47,7 +47,7 @@ fn skip(n: usize, r0: Run, d: &mut [f64], e: &mut [f64]) -> Run
 // The l whose passes are to be run.
 pub fn find(n: usize, r: Run, d: &mut [f64], e: &mut [f64]) -> Run
     requires { ⌜ (n ≤ 256) × (r .l ≤ n) × (length (now d) ≡ n) × (length (now e) ≡ n) ⌝ }
-    ensures { λ q. ⌜ ((v : Vec) → (q, v, now (d .exit), now (e .exit)) ≡ found n (r, v, now (d .entry), now (e .entry))) ⌝ }
+    ensures { λ q. ⌜ ((v : Vec) → (q, v, now (d .exit), now (e .exit)) ≡ foundL n (r, v, now (d .entry), now (e .entry))) ⌝ }
 {
     if r.passes != 0 {
         return r;

@@ -8,14 +8,14 @@ use native.Mathlib.Decide.{decLt}
 use native.Mathlib.Omega.{arith}
 use lib.Dec.{T}
 use lib.Pow.{pow-pos}
-use lib.Ieee.{Float, binary64, mul, lt, le, round, fits, ofBits, toBits}
+use lib.Ieee.{Float, binary64, mul, lt, le, round, fits, toBits}
 use lib.Ieee.Bits.{ofBits-toBits}
 use lib.Ieee.Exact.{HasValue, round-exact}
 use lib.Ieee.Fits.{round-fits}
 use lib.Ieee.Order.{le-of-values, round-mono}
 use lib.Ieee.Positive.{positive, mul-at}
 use Rattle.root.specs.Root.{units, root}
-use Rattle.root.specs.Nearest.{Nearest, Between}
+use Rattle.root.specs.Nearest.{Nearest}
 use Rattle.root.proofs.Fields.{val}
 use Rattle.root.proofs.Whole.{sq-mono, sq-even}
 use Rattle.root.proofs.Patterns.{bits-value}

@@ -1,22 +1,19 @@
 -- Where a test passes the skip test is settled. Laws only.
-use mathlib.Core.Path.{_≡_, refl, sym, ap, _∙_, subst}
+use mathlib.Core.Path.{_≡_, refl, sym, _∙_}
 use mathlib.Core.Bool.{Bool, true, false, _&&_, true≢false}
-use Prim.Native.Nat.{ℕ, zero-le, _*_, _<_}
+use Prim.Native.Nat.{zero-le, _*_}
 use native.Mathlib.Nat.{lt-of-le-of-lt}
 use borrow.Author.Tests.{ltb-true}
 use lib.Dec.{T, lt→ltb}
-use lib.Ieee.{Float, nan, inf, fin, binary64, up, down, lt, eq, le, fits, ofBits}
+use lib.Ieee.{Float, nan, inf, fin, binary64, up, lt, eq, le, fits, ofBits}
 use lib.Ieee.Positive.{positive, mul-mono, first-pos}
+use Rattle.grid.specs.LoopLaws as laws
 use Rattle.grid.specs.Real.{zero64, epsilon, _⊗_}
 use Rattle.leaves.specs.Leaf.{isFinite}
 use Rattle.root.specs.Root.{root}
 use Rattle.skip.specs.Skip.{both, surely, surelyNot}
 use Rattle.skip.proofs.Order.{is-true, of-true, le-not, le-through}
 use Rattle.skip.proofs.Beside.{root-positive, below-root, above-root}
-
-split : (a b : Bool) → (a && b) ≡ true → (a ≡ true) × (b ≡ true)
-split true b e = (refl, e)
-split false b e = absurd (true≢false (sym e))
 
 above-zero : (x : Float) → lt zero64 x ≡ true → isFinite x ≡ true → T (positive x)
 unfolding lt isFinite ofBits
@@ -28,9 +25,9 @@ above-zero (fin false m d) e f = lt→ltb 0 m (first-pos m (up d) (first-pos (m 
 both-positive : (u p : Float) → both u p ≡ true → T (positive u) × T (positive p)
 unfolding both
 both-positive u p e =
-    let a = split (lt zero64 u && isFinite u && lt zero64 p) (isFinite p) e in
-    let b = split (lt zero64 u && isFinite u) (lt zero64 p) (a .0) in
-    let c = split (lt zero64 u) (isFinite u) (b .0) in
+    let a = laws.both (lt zero64 u && isFinite u && lt zero64 p) (isFinite p) e in
+    let b = laws.both (lt zero64 u && isFinite u) (lt zero64 p) (a .0) in
+    let c = laws.both (lt zero64 u) (isFinite u) (b .0) in
     (above-zero u (c .0) (c .1), above-zero p (b .1) (a .1))
 
 epsilon-positive : T (positive epsilon)
@@ -44,8 +41,8 @@ epsilon-level = tt
 pub settled : (g u p : Float) → T (fits binary64 u) → T (fits binary64 p) → surely g u p ≡ true → le g (epsilon ⊗ root p) ≡ true
 unfolding surely
 settled g u p fu fp e =
-    let a = split (both u p && le g (epsilon ⊗ u)) (lt (u ⊗ u) p) e in
-    let b = split (both u p) (le g (epsilon ⊗ u)) (a .0) in
+    let a = laws.both (both u p && le g (epsilon ⊗ u)) (lt (u ⊗ u) p) e in
+    let b = laws.both (both u p) (le g (epsilon ⊗ u)) (a .0) in
     let s = both-positive u p (b .0) in
     let r = root-positive u p fu fp (s .0) (s .1) in
     is-true _ (le-through g (epsilon ⊗ u) (epsilon ⊗ root p) (of-true (b .1))
@@ -54,8 +51,8 @@ settled g u p fu fp e =
 pub settled-not : (g u p : Float) → T (fits binary64 u) → T (fits binary64 p) → surelyNot g u p ≡ true → le g (epsilon ⊗ root p) ≡ false
 unfolding surelyNot
 settled-not g u p fu fp e =
-    let a = split (both u p && lt (epsilon ⊗ u) g) (lt p (u ⊗ u)) e in
-    let b = split (both u p) (lt (epsilon ⊗ u) g) (a .0) in
+    let a = laws.both (both u p && lt (epsilon ⊗ u) g) (lt p (u ⊗ u)) e in
+    let b = laws.both (both u p) (lt (epsilon ⊗ u) g) (a .0) in
     let s = both-positive u p (b .0) in
     let r = root-positive u p fu fp (s .0) (s .1) in
     let m = mul-mono binary64 epsilon epsilon (root p) u epsilon-positive epsilon-positive r (s .0) epsilon-level (above-root u p fu fp (s .0) (s .1) (a .1)) in

@@ -16,7 +16,6 @@ use Rattle.leaves.specs.declared.Bad.{Bad}
 use Rattle.leaves.specs.declared.Bad.the-variants.{At, Nowhere}
 use Rattle.answers.specs.Answers.{done, emptied, marked}
 use Rattle.answers.specs.OutcomeLaws.{Good, refuses, unless-good, check-good}
-use Rattle.answers.specs.declared.Answer.{Answer}
 use Rattle.solve.specs.Solve.{looked, solveChecks, inverseChecks, solve, pseudoInverse}
 use Rattle.solution.specs.Solution.{solution}
 use Rattle.inverse.specs.Inverse.{inverted}

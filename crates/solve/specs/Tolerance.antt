@@ -1,5 +1,5 @@
 -- What the tolerance does: -0.0 is 0, and where it is not refused nothing is changed by its check. Laws only.
-use mathlib.Core.Path.{_≡_, sym, ap, _∙_}
+use mathlib.Core.Path.{_≡_, sym, _∙_}
 use mathlib.Core.Bool.{true, cond}
 use mathlib.Core.List.{_++_}
 use Prim.Native.Nat.{ℕ, _*_}
@@ -11,7 +11,6 @@ use Rattle.grid.specs.Cell.{entry}
 use Rattle.grid.specs.Table.{table, rows}
 use Rattle.leaves.specs.Scan.{firstBad}
 use Rattle.answers.specs.Answers.{passed, least, decompositionLength, unlessBad}
-use Rattle.answers.specs.declared.Answer.{Answer}
 use Rattle.checks.specs.Checks.{toleranceGood, fitting}
 use Rattle.checks.specs.ToleranceLaws.{fitting-lengths, zero-good, minus-zero-good, above-minus-zero}
 use Rattle.solution.specs.Solution.{valuesOf, uOf, vtOf, columnSum, coefficient, solution}

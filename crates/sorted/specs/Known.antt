@@ -107,6 +107,25 @@ present-part flag r = go (eqb flag 0)
     go true = omega arith
     go false = omega arith
 
+-- ---- the two factors: one of L rows, which stands first, and one of r
+
+-- a factor of so many rows stands first, or second where t says so
+pub record Side (m n : ℕ) (t : Bool) (rows : ℕ) : Type 0 where
+  pub first : t ≡ false → longest m n ≡ rows
+  pub second : t ≡ true → least m n ≡ rows
+
+pub left-side : (m n : ℕ) → Side m n (ltb m n) m
+left-side m n = record { first = λ e. tall-longest m n (ltb-false m n e); second = λ e. wide-least m n (ltb-true m n e) }
+
+pub right-side : (m n : ℕ) → Side m n (leb n m) n
+right-side m n = record { first = λ e. wide-longest m n (leb-false n m e); second = λ e. tall-least m n (leb-true n m e) }
+
+-- where a factor begins, it has room before the values
+pub factor-room : (m n : ℕ) (t : Bool) (rows : ℕ) → Side m n t rows
+    → offset t (longest m n * least m n) + least m n * rows ≤ longest m n * least m n + least m n * least m n
+factor-room m n true rows s = omega (arith, ap (_*_ (least m n)) (s .second refl))
+factor-room m n false rows s = omega (arith, ap (_*_ (least m n)) (s .first refl), mul-comm (least m n) (longest m n))
+
 -- ---- each of the three parts of a result has its room
 
 module _ (m n wantU wantVt : ℕ) (w res : Vec) (o : List ℕ) (c : Checked m n wantU wantVt w res) (b : Below (least m n) o) where
@@ -125,28 +144,10 @@ module _ (m n wantU wantVt : ℕ) (w res : Vec) (o : List ℕ) (c : Checked m n 
         room = λ k i h l. omega (arith, c .results, mul-one k, mul-one i);
       }
 
-  -- the factor of m rows, and the one of n rows, stand within w
-  left-there : offset (ltb m n) (longest m n * least m n) + present wantU (least m n) * m ≤ length w
+  -- a factor stands within w
+  there : (t : Bool) (rows want : ℕ) → Side m n t rows → offset t (longest m n * least m n) + present want (least m n) * rows ≤ length w
   unfolding workLength
-  left-there = go (ltb m n) refl
-    where
-      few : present wantU (least m n) * m ≤ least m n * m
-      few = mul-le-mul-right m (present-part wantU (least m n))
-
-      go : (t : Bool) → ltb m n ≡ t → offset t (longest m n * least m n) + present wantU (least m n) * m ≤ length w
-      go true e = omega (arith, few, c .works, ap (_*_ (least m n)) (wide-least m n (ltb-true m n e)))
-      go false e = omega (arith, few, c .works, ap (_*_ (least m n)) (tall-longest m n (ltb-false m n e)), mul-comm (least m n) (longest m n))
-
-  right-there : offset (leb n m) (longest m n * least m n) + present wantVt (least m n) * n ≤ length w
-  unfolding workLength
-  right-there = go (leb n m) refl
-    where
-      few : present wantVt (least m n) * n ≤ least m n * n
-      few = mul-le-mul-right n (present-part wantVt (least m n))
-
-      go : (t : Bool) → leb n m ≡ t → offset t (longest m n * least m n) + present wantVt (least m n) * n ≤ length w
-      go true e = omega (arith, few, c .works, ap (_*_ (least m n)) (tall-least m n (leb-true n m e)))
-      go false e = omega (arith, few, c .works, ap (_*_ (least m n)) (wide-longest m n (leb-false n m e)), mul-comm (least m n) (longest m n))
+  there t rows want s = omega (arith, mul-le-mul-right rows (present-part want (least m n)), factor-room m n t rows s, c .works)
 
   pub left-out : Out (present wantU (least m n)) (offset (ltb m n) (longest m n * least m n)) m (least m n) (least m n) 1 w o res
   unfolding decompositionLength
@@ -155,7 +156,7 @@ module _ (m n wantU wantVt : ℕ) (w res : Vec) (o : List ℕ) (c : Checked m n 
         few = omega (arith, present-part wantU (least m n), small);
         named = present-below wantU (least m n) o b;
         some = λ z. omega (arith, present-part wantU (least m n), least-left m n);
-        there = left-there;
+        there = there (ltb m n) m wantU (left-side m n);
         room = λ k i h l. (let f = present-few wantU (least m n) k h in
             omega (arith, c .results, mul-one k, cell m (least m n) i k l (f .0), f .1 (m * least m n)));
       }
@@ -167,7 +168,7 @@ module _ (m n wantU wantVt : ℕ) (w res : Vec) (o : List ℕ) (c : Checked m n 
         few = omega (arith, present-part wantVt (least m n), small);
         named = present-below wantVt (least m n) o b;
         some = λ z. omega (arith, present-part wantVt (least m n), least-right m n);
-        there = right-there;
+        there = there (leb n m) n wantVt (right-side m n);
         room = λ k i h l. (let f = present-few wantVt (least m n) k h in
             omega (arith, c .results, mul-one i, cell (least m n) n k i (f .0) l, f .1 (least m n * n)));
       }

@@ -31,7 +31,8 @@ use Rattle.turnends.specs.TurnEnds.{State, opened, stopping, released, closed}
 use Rattle.told.specs.Document.{Carried}
 use Rattle.told.specs.Last.{plus, nought, nought-zero, plus-larger, plus-le, nought-eq, transformed-ended}
 use Rattle.told.specs.Long.{body-long}
-use Rattle.settled.specs.Settled.{goneOn, come, found}
+use Rattle.told.specs.Marks.{closed-used}
+use Rattle.settled.specs.Settled.{goneOn, come, foundL}
 use Rattle.machine.specs.Machine.{undecided, decided, step}
 use Rattle.runchecks.specs.Checks.{inRange, sound}
 use Rattle.runchecks.specs.CheckLaws.{Open}
@@ -138,10 +139,6 @@ closed-marked x c q a b =
     (λ i. cond (eqb (q i) 1) (released x) (cond (eqb (q i) 0) (stopping (x .0) 9, x .1, x .2, x .3) x))
     ∙ (λ i. cond (a i) (released x) (cond (b i) (stopping (x .0) 9, x .1, x .2, x .3) x))
 
-closed-used : (x : State) → x .0 .stop ≡ 0 → closed x ≡ (stopping (x .0) 9, x .1, x .2, x .3)
-unfolding closed
-closed-used x q = λ i. cond (eqb (q i) 1) (released x) (cond (eqb (q i) 0) (stopping (x .0) 9, x .1, x .2, x .3) x)
-
 decided-next : (n limit edition : ℕ) (x : State) → Open n limit (x .0) → Body n x → x .0 .l < n → x .0 .l < x .0 .m → Next n limit x (decided limit (pass n edition x))
 unfolding decided undecided
 decided-next n limit edition x o b h a = go (one-pass n edition x a (o .within) b)
@@ -192,7 +189,7 @@ unfolding step
 step-next n limit edition x o b = from (found-found n limit (Body n) (left-body n) (come-body n) x o b)
   where
     y : State
-    y = found n x
+    y = foundL n x
 
     again : {z : State} → y .0 .count ≡ x .0 .count → Next n limit y z → Next n limit x z
     again e (halts q l) = halts q l

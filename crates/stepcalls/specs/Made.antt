@@ -111,17 +111,23 @@ module _ (n limit edition : ℕ) (x : State) (f : Fit n limit edition) (o : Open
       (q, x .3, r))
       ∙ ap (λ (s : State). brought n limit edition (step n limit edition s)) same
 
-  finish-to : n ≤ x .0 .l
-      → finished (recorded n limit edition (x .0) (done (x .0 .count))) (x .3) (x .2 ++ x .1) ≡ endsAs n limit edition (TurnEnds.stopping (x .0) 1) (closedUp n (x .0) (x .3) (x .2 ++ x .1))
+  -- a finish, by whether an l is left
+  finish-by : (b : Bool) → ltb (x .0 .l) n ≡ b
+      → finished (recorded n limit edition (x .0) (done (x .0 .count))) (x .3) (x .2 ++ x .1)
+      ≡ cond b (recorded n limit edition (x .0) (refused 13 0), x .3, x .2 ++ x .1) (endsAs n limit edition (TurnEnds.stopping (x .0) 1) (closedUp n (x .0) (x .3) (x .2 ++ x .1)))
   unfolding finished
-  finish-to h =
+  finish-by b e =
       let q = recorded n limit edition (x .0) (done (x .0 .count)) in
       let r = x .2 ++ x .1 in
       λ i. cond (is-going i)
       (cond (passed (passes-checks i))
-      (cond (le-ltb (x .0 .l) n h i) (answering q (refused 13 0), x .3, r) (endsAs n limit edition (TurnEnds.stopping (x .0) 1) (closedUp n (x .0) (x .3) r)))
+      (cond (e i) (answering q (refused 13 0), x .3, r) (endsAs n limit edition (TurnEnds.stopping (x .0) 1) (closedUp n (x .0) (x .3) r)))
       (answering q (passes-checks i), x .3, r))
       (q, x .3, r)
+
+  finish-to : n ≤ x .0 .l
+      → finished (recorded n limit edition (x .0) (done (x .0 .count))) (x .3) (x .2 ++ x .1) ≡ endsAs n limit edition (TurnEnds.stopping (x .0) 1) (closedUp n (x .0) (x .3) (x .2 ++ x .1))
+  finish-to h = finish-by false (le-ltb (x .0 .l) n h)
 
   finish-is : n ≤ x .0 .l → reply (finished (recorded n limit edition (x .0) (done (x .0 .count))) (x .3) (x .2 ++ x .1)) ≡ given n (qlFinished n x)
   unfolding closedUp
@@ -129,15 +135,7 @@ module _ (n limit edition : ℕ) (x : State) (f : Fit n limit edition) (o : Open
 
   early-is : x .0 .l < n
       → finished (recorded n limit edition (x .0) (done (x .0 .count))) (x .3) (x .2 ++ x .1) ≡ (recorded n limit edition (x .0) (refused 13 0), x .3, x .2 ++ x .1)
-  unfolding finished
-  early-is h =
-      let q = recorded n limit edition (x .0) (done (x .0 .count)) in
-      let r = x .2 ++ x .1 in
-      λ i. cond (is-going i)
-      (cond (passed (passes-checks i))
-      (cond (lt-ltb (x .0 .l) n h i) (answering q (refused 13 0), x .3, r) (endsAs n limit edition (TurnEnds.stopping (x .0) 1) (closedUp n (x .0) (x .3) r)))
-      (answering q (passes-checks i), x .3, r))
-      (q, x .3, r)
+  early-is h = finish-by true (lt-ltb (x .0 .l) n h)
 
   kept-whole : given n (qlFinished n (rest n limit edition (step n limit edition x))) ≡ given n (qlFinished n (rest n limit edition x))
   kept-whole =

@@ -19,7 +19,7 @@ use Rattle.turnends.specs.TurnEnds.{State, opened, ended, released, closed}
 use Rattle.turns.specs.Turns.{iterated, stage, turn}
 use Rattle.qlend.specs.QlEnd.{mark2, qlFinished}
 use Rattle.sort.specs.Sort.{sorted}
-use Rattle.settled.specs.Settled.{nextL, goneOn, come, skipped, found}
+use Rattle.settled.specs.Settled.{nextL, goneOn, come, skipped, foundL}
 use Rattle.machine.specs.Machine.{undecided, decided, step}
 use Rattle.settled.specs.Walk.{going-on, onward-ended, onward-going, closed-settled, closed-l, passedOver, Coming, settles, stays, coming}
 
@@ -264,11 +264,11 @@ module _ (n limit edition : ℕ) where
       → qlFinished n (rest n limit edition (step n limit edition x)) ≡ qlFinished n (rest n limit edition x)
   step-whole x q l p w = first (eqb (x .0 .passes) 0) refl
     where
-      pick : {b : Bool} → ltb (found n x .0 .l) n ≡ b → step n limit edition x ≡ cond b (decided limit (pass n edition (found n x))) (found n x)
-      pick e = unfold step in λ i. cond (e i) (decided limit (pass n edition (found n x))) (found n x)
+      pick : {b : Bool} → ltb (foundL n x .0 .l) n ≡ b → step n limit edition x ≡ cond b (decided limit (pass n edition (foundL n x))) (foundL n x)
+      pick e = unfold step in λ i. cond (e i) (decided limit (pass n edition (foundL n x))) (foundL n x)
 
       -- y is where the pass is run
-      from : (y : State) → found n x ≡ y → y .0 .stop ≡ 0 → y .0 .passes < limit → (n ≤ y .0 .l → y .0 .passes ≡ 0)
+      from : (y : State) → foundL n x ≡ y → y .0 .stop ≡ 0 → y .0 .passes < limit → (n ≤ y .0 .l → y .0 .passes ≡ 0)
           → qlFinished n (rest n limit edition x) ≡ qlFinished n (after n limit edition y) → qlFinished n (rest n limit edition (step n limit edition x)) ≡ qlFinished n (rest n limit edition x)
       from y f s b z g = go (ltb (y .0 .l) n) refl
         where
@@ -284,8 +284,8 @@ module _ (n limit edition : ℕ) where
               ∙ ap (qlFinished n) (rest-last n limit edition y s (z h) h ∙ sym (after-past n limit edition y h))
               ∙ sym g
 
-      look : {b : Bool} → eqb (x .0 .passes) 0 ≡ b → found n x ≡ cond b (skipped n (n - x .0 .l) x) x
-      look e = unfold found in λ i. cond (e i) (skipped n (n - x .0 .l) x) x
+      look : {b : Bool} → eqb (x .0 .passes) 0 ≡ b → foundL n x ≡ cond b (skipped n (n - x .0 .l) x) x
+      look e = unfold foundL in λ i. cond (e i) (skipped n (n - x .0 .l) x) x
 
       first : (b : Bool) → eqb (x .0 .passes) 0 ≡ b → qlFinished n (rest n limit edition (step n limit edition x)) ≡ qlFinished n (rest n limit edition x)
       first true t =

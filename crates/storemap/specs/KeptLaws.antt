@@ -9,7 +9,7 @@ use lib.Dec.{ltb, leb}
 use lib.ListN.{length, take, drop, getD, set, length-set, length-drop}
 use lib.Seq.{length-paste, length-take-le, getD-take, getD-set-other}
 use Rattle.storemap.specs.Store.{closed, roomOf, heldOf, lengthAt, startOf, sound, Outcome, entryOf, holds, kept, added, removed, putOf, dropOf}
-use Rattle.storemap.specs.SoundLaws.{Facts, facts}
+use Rattle.storemap.specs.SoundLaws.{facts}
 use Rattle.storemap.specs.Calls.{Call, Put, Length, Fetch, Drop, Arrays, storeCall}
 use Rattle.storemap.specs.StartLaws.{start-ends}
 

@@ -1,13 +1,10 @@
 -- The promises of the store's calls determine the outcome: two that satisfy one are the same. Laws only.
-use mathlib.Core.Path.{_≡_, sym, _∙_}
+use mathlib.Core.Path.{_≡_}
 use mathlib.Core.List.{List}
 use Prim.Native.Nat.{ℕ}
 use Rattle.answers.specs.declared.Answer.{Answer}
+use Rattle.answers.specs.OutcomeLaws.{one-outcome}
 use Rattle.storemap.specs.Store.{Outcome, setUp, putOf, lengthHeld, fetchOf, dropOf}
-
--- of any promise that is one equation
-one-outcome : {A : Type 0} (x o p : A) → o ≡ x → p ≡ x → o ≡ p
-one-outcome x o p e f = e ∙ sym f
 
 module _ (entries : ℕ) (list tiles bytes : List ℕ) where
   pub set-up-one : (o p : Answer × List ℕ) → o ≡ setUp entries list tiles bytes → p ≡ setUp entries list tiles bytes → o ≡ p

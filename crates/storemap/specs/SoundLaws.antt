@@ -1,11 +1,12 @@
 -- What is known of a sound store. Laws only.
-use mathlib.Core.Path.{_≡_, refl, sym}
-use mathlib.Core.Bool.{Bool, true, false, _&&_, true≢false}
+use mathlib.Core.Path.{_≡_}
+use mathlib.Core.Bool.{true}
 use mathlib.Core.List.{List}
 use Prim.Native.Nat.{ℕ, _+_, _≤_}
 use borrow.Author.Tests.{leb-true, eqb-true, le-leb, eq-eqb}
 use lib.Dec.{leb, eqb}
 use lib.ListN.{length, take}
+use Rattle.grid.specs.LoopLaws.{both}
 use Rattle.storemap.specs.Store.{distinct, roomOf, heldOf, startOf, listed, sound}
 
 pub record Facts (entries : ℕ) (list tiles bytes : List ℕ) : Type 0 where
@@ -16,10 +17,6 @@ pub record Facts (entries : ℕ) (list tiles bytes : List ℕ) : Type 0 where
   pub few : heldOf list ≤ entries
   pub fitting : startOf list (heldOf list) ≤ roomOf list
   pub unlike : distinct (take (heldOf list) tiles) ≡ true
-
-both : (a b : Bool) → a && b ≡ true → (a ≡ true) × (b ≡ true)
-both true b e = (refl, e)
-both false b e = absurd (true≢false (sym e))
 
 module _ (entries : ℕ) (list tiles : List ℕ) (e : listed entries list tiles ≡ true) where
   pub listed-lists : length list ≡ 2 + entries

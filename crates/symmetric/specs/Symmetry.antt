@@ -1,7 +1,6 @@
 -- A matrix that is its own mirror: its rows are its columns, so that a product is its rows added up, each number of it in the same order. Laws only.
 -- What stands here is what the code does on the way; no public promise cites it.
-use mathlib.Core.Path.{_≡_, refl, sym, ap, _∙_, subst}
-use mathlib.Core.Bool.{Bool, true, false, _&&_, true≢false}
+use mathlib.Core.Path.{_≡_, sym, ap, _∙_, subst}
 use Prim.Native.Nat.{ℕ, _+_, _<_, _≤_}
 use native.Mathlib.Decide.{ℕ-discrete, decLt}
 use native.Mathlib.Omega.{arith}
@@ -41,10 +40,6 @@ pub record Fours (n : ℕ) (a : Vec) (i j : ℕ) : Type 0 where
   pub second : entry a n (i + 1) j ≡ entry a n j (i + 1)
   pub third : entry a n (i + 2) j ≡ entry a n j (i + 2)
   pub fourth : entry a n (i + 3) j ≡ entry a n j (i + 3)
-
-pub both : (p q : Bool) → (p && q) ≡ true → (p ≡ true) × (q ≡ true)
-both true q e = (refl, e)
-both false q e = absurd (true≢false (sym e))
 
 pub one-further : (P : ℕ → Type 0) (j : ℕ) → ((k : ℕ) → k < j → P k) → P j → (k : ℕ) → k < j + 1 → P k
 one-further P j h p k l = elim (ℕ-discrete k j) [

@@ -5,7 +5,8 @@ use native.Mathlib.Omega.{arith}
 use borrow.Author.Tests.{leb-true, lt-ltb, le-ltb, ne-eqb}
 use lib.ListN.{getD, set}
 use Rattle.figures.specs.Tallies.{smallAt, small, refusal, next, outcome}
-use Rattle.figures.specs.TallyLaws.{every-at, Taken}
+use Rattle.figures.specs.TallyLaws.{Taken}
+use Rattle.grid.specs.LoopLaws.{every-at}
 use Rattle.figures.specs.declared.Tally.{Tally}
 use Rattle.figures.specs.declared.Reply.{Reply}
 

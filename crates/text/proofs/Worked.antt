@@ -7,8 +7,9 @@ use Prim.Native.Char.{code}
 use Prim.Native.String.{String, [], _∷_}
 use lib.Ieee.{Float, binary64, isNan, ofBits, toBits}
 use Rattle.text.specs.Writing.{glyph, digits, placesFrom, places, number, joined, separator, group, lines, writing, bitsAt, shown, answerText, badText}
+use Rattle.grid.specs.Loop.{every}
 use Rattle.octets.specs.Bits.{bits}
-use Rattle.text.specs.Reading.{Text, good, bad, value, numberOf, numberAt, head, every, groupAt, horner, wordAt, table, wordsRead, reading}
+use Rattle.text.specs.Reading.{Text, good, bad, value, numberOf, numberAt, head, groupAt, horner, wordAt, table, wordsRead, reading}
 
 abbrev bytes : String → List ℕ
 bytes [] = []ᴸ

@@ -11,14 +11,18 @@ use borrow.Author.Tests.{ltb-true, ltb-false, lt-ltb, le-ltb, eqb-true, eq-eqb}
 use lib.Dec.{ltb, eqb}
 use lib.ListN.{length, getD, take, drop, length-append, length-drop, List·getD-append}
 use lib.Seq.{drop-at, take-add, take-all, drop-drop, ext-getD, getD-at}
+use Rattle.grid.specs.Loop.{every}
+use Rattle.grid.specs.LoopLaws.{below-cases, both, every-at, every-all}
+use Rattle.octets.specs.Bytes.{byte}
+use Rattle.octets.specs.BytesLaws.{parts, one-of, take-more, part-length}
 use Rattle.text.specs.Writing.{digits, number, joined, separator, group, lines, wordOf, writing}
-use Rattle.text.specs.Reading.{good, bad, byte, valueAt, numberAt, limitIn, headOf, head, every, digitAt, groupAt, wordAt, table, wordsRead, readingOf, reading}
+use Rattle.text.specs.Reading.{good, bad, valueAt, numberAt, limitIn, headOf, head, digitAt, groupAt, wordAt, table, wordsRead, readingOf, reading}
 use Rattle.text.specs.Accepts.{Words, Written}
 use Rattle.text.specs.declared.Number.{Number}
 use Rattle.text.specs.declared.Number.the-variants.{Ended, NoNumber}
 use Rattle.text.specs.declared.Head.{Head}
 use Rattle.text.specs.declared.Head.the-variants.{Line, NoLine}
-use Rattle.text.specs.Laws.{parts, one-of, take-more, part-length, below-cases, digits-length, both, every-at, every-all, horner-bound, spelled, taken}
+use Rattle.text.specs.Laws.{digits-length, horner-bound, spelled, taken}
 use Rattle.text.specs.Numbers.{Known, number-known, number-read, number-short, number-long}
 
 -- ---- seventeen bytes a word

@@ -1,45 +1,21 @@
--- Parts of lists, digits and their values, tests over a range, words. Laws only.
+-- Digits and their values, words. Laws only.
 use mathlib.Core.Path.{_≡_, refl, sym, ap, _∙_}
-use mathlib.Core.Bool.{Bool, true, false, cond, _&&_, true≢false}
+use mathlib.Core.Bool.{Bool, true, false, cond}
 use mathlib.Core.Logic.{_⊎_, inl, inr, ⊎-elim}
 use mathlib.Core.List.{List, [], _∷_, _++_}
 use Prim.Native.Nat.{ℕ, zero, suc, _+_, _-_, _*_, _/_, _%_, _^_, _≤_, _<_}
-use native.Mathlib.Nat.{not-suc-le-zero, le-antisymm, pow-suc, pow-le-pow-right}
+use native.Mathlib.Nat.{not-suc-le-zero, pow-suc, pow-le-pow-right}
 use native.Mathlib.Numerals.{add-one}
 use native.Mathlib.Omega.{arith}
 use borrow.Author.Tests.{ltb-true, ltb-false, lt-ltb, le-ltb}
 use lib.Dec.{ltb}
-use lib.ListN.{length, getD, take, drop, length-append, length-drop}
-use lib.Seq.{take-at, drop-at, take-suc, getD-drop, length-take-le}
+use lib.ListN.{length, take, drop, length-append}
 use Rattle.text.specs.Writing.{glyph, digits}
-use Rattle.text.specs.Reading.{byte, value, valueAt, digitAt, every, horner}
-
--- ---- lists
-
--- two lists in two parts each, the first parts of one length
-pub parts : {A : Type 0} (k : ℕ) (xs zs ys ws : List A) → length xs ≡ k → length zs ≡ k → xs ++ ys ≡ zs ++ ws → (xs ≡ zs) × (ys ≡ ws)
-parts {A} k xs zs ys ws p q e =
-    (sym (take-at xs ys k p) ∙ ap (λ (l : List A). take k l) e ∙ take-at zs ws k q, sym (drop-at xs ys k p) ∙ ap (λ (l : List A). drop k l) e ∙ drop-at zs ws k q)
-
-pub one-of : (a b : ℕ) → _≡_ {A = List ℕ} (a ∷ []) (b ∷ []) → a ≡ b
-one-of a b e = ap (λ (l : List ℕ). getD l 0 0) e
-
--- one byte more of a text from `at` on
-pub take-more : (t : List ℕ) (at k : ℕ) → at + k < length t → take (suc k) (drop at t) ≡ take k (drop at t) ++ (byte t (at + k) ∷ [])
-take-more t at k h =
-    take-suc (drop at t) k 0 (rw (length-drop at t) (omega arith)) ∙ ap (λ (b : ℕ). take k (drop at t) ++ (b ∷ [])) (getD-drop at t k 0)
-
-pub part-length : (t : List ℕ) (at k : ℕ) → at + k ≤ length t → length (take k (drop at t)) ≡ k
-part-length t at k h = length-take-le k (drop at t) (rw (length-drop at t) (omega arith))
-
--- ---- below a bound
-
-pub below-cases : (i m : ℕ) → i < suc m → (i < m) ⊎ (i ≡ m)
-below-cases i m h = go (ltb i m) refl
-  where
-    go : (b : Bool) → ltb i m ≡ b → (i < m) ⊎ (i ≡ m)
-    go true e = inl (ltb-true i m e)
-    go false e = inr (le-antisymm (omega arith) (ltb-false i m e))
+use Rattle.text.specs.Reading.{value, valueAt, digitAt, horner}
+use Rattle.octets.specs.Bytes.{byte}
+use Rattle.octets.specs.BytesLaws.{parts, one-of, take-more, part-length}
+use Rattle.grid.specs.Loop.{every}
+use Rattle.grid.specs.LoopLaws.{below-cases, every-at}
 
 -- ---- digits
 
@@ -96,39 +72,6 @@ value-glyph d h = go (ltb d 10) refl
     go false e =
         let g : 10 ≤ d = ltb-false d 10 e in
         rw (glyph-high d g) (value-high (87 + d) (omega arith) (omega arith) ∙ omega arith)
-
--- ---- tests over a range
-
-pub both : (a b : Bool) → (a && b) ≡ true → (a ≡ true) × (b ≡ true)
-both true b e = (refl, e)
-both false b e = absurd (true≢false (sym e))
-
-pub every-none : (p : ℕ → Bool) → every p 0 ≡ true
-unfolding every
-every-none p = refl
-
-pub every-more : (p : ℕ → Bool) (m : ℕ) → every p m ≡ true → p m ≡ true → every p (m + 1) ≡ true
-unfolding every
-every-more p m e f = rw (add-one, e, f)
-
-pub every-at : (p : ℕ → Bool) (m i : ℕ) → every p m ≡ true → i < m → p i ≡ true
-unfolding every
-every-at p zero i e h = absurd (not-suc-le-zero h)
-every-at p (suc m) i e h =
-    let w = both (every p m) (p m) e in
-    ⊎-elim (λ g. every-at p m i (w .0) g) (λ g. ap p g ∙ w .1) (below-cases i m h)
-
-pub every-fails : (p : ℕ → Bool) (m i : ℕ) → i < m → p i ≡ false → every p m ≡ false
-every-fails p m i h f = go (every p m) refl
-  where
-    go : (b : Bool) → every p m ≡ b → every p m ≡ false
-    go true e = absurd (true≢false (sym (every-at p m i e h) ∙ f))
-    go false e = e
-
-pub every-all : (p : ℕ → Bool) (m : ℕ) → ((i : ℕ) → i < m → p i ≡ true) → every p m ≡ true
-unfolding every
-every-all p zero h = refl
-every-all p (suc m) h = rw (every-all p m (λ i g. h i (omega arith)), h m (omega arith))
 
 -- ---- words
 

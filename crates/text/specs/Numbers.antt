@@ -11,7 +11,8 @@ use lib.Dec.{ltb, leb, eqb}
 use lib.ListN.{length, drop, List·getD-eq-default}
 use lib.Seq.{drop-cons, getD-drop}
 use Rattle.text.specs.Writing.{digits, placesFrom, places, number}
-use Rattle.text.specs.Reading.{byte, value, numberOf, numberAt}
+use Rattle.text.specs.Reading.{value, numberOf, numberAt}
+use Rattle.octets.specs.Bytes.{byte}
 use Rattle.text.specs.declared.Number.{Number}
 use Rattle.text.specs.declared.Number.the-variants.{Ended, NoNumber}
 use Rattle.text.specs.Laws.{digit-cases, value-low, value-high, glyph-low}

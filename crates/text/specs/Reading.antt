@@ -1,11 +1,13 @@
 -- How a text is read: each place of it is known once its first line is. Definitions only.
-use mathlib.Core.Bool.{Bool, true, cond, _&&_}
+use mathlib.Core.Bool.{Bool, cond, _&&_}
 use mathlib.Core.List.{List, [], _∷_, _++_, map}
 use Prim.Native.Nat.{ℕ, zero, suc, _+_, _-_, _*_}
 use lib.Dec.{ltb, leb, eqb}
-use lib.ListN.{length, getD}
+use lib.ListN.{length}
 use lib.Seq.{sets}
 use lib.Ieee.{Float}
+use Rattle.grid.specs.Loop.{every}
+use Rattle.octets.specs.Bytes.{byte}
 use Rattle.octets.specs.Bits.{float}
 use Rattle.text.specs.Writing.{separator}
 use Rattle.text.specs.declared.Reading.{Reading}
@@ -19,10 +21,6 @@ use Rattle.text.specs.declared.Head.the-variants.{Line, NoLine}
 pub data Text : Type 0 where
   good : ℕ → ℕ → List ℕ → Text
   bad : Text
-
--- the byte at i, and 0, which is in no text, behind the end
-abbrev pub byte : List ℕ → ℕ → ℕ
-byte t i = getD t i 0
 
 -- the value of a lower-case hex digit, and 16 of any other byte
 unfoldable pub value : ℕ → ℕ
@@ -58,11 +56,6 @@ headOf t NoNumber = NoLine
 
 unfoldable pub head : List ℕ → Head
 head t = headOf t (numberAt t 0 32)
-
--- p holds of 0, 1, .., m - 1
-unfoldable pub every : (ℕ → Bool) → ℕ → Bool
-every p zero = true
-every p (suc m) = every p m && p m
 
 -- digit i of the word that starts at `at`
 abbrev pub digitAt : List ℕ → ℕ → ℕ → Bool

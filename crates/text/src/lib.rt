@@ -2,7 +2,8 @@
 ghost use mathlib.Core.Path.{_≡_};
 ghost use Prim.Native.Nat.{_<_, _≤_};
 ghost use Rattle.text.specs.Writing.{separator};
-ghost use Rattle.text.specs.Reading.{byte, value, numberAt, limitOf, head};
+ghost use Rattle.octets.specs.Bytes.{byte};
+ghost use Rattle.text.specs.Reading.{value, numberAt, limitOf, head};
 
 // What a text gives: the size and the limit of its first line, its numbers standing in the matrix, or nothing.
 pub enum Reading {

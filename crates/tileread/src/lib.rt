@@ -3,7 +3,6 @@ ghost use mathlib.Core.Path.{_≡_};
 ghost use Prim.Native.Nat.{_<_};
 ghost use Rattle.figures.specs.Tallies.{none};
 ghost use Rattle.tiletext.specs.Lines.{fresh, ended, endOf, mostOf, grown, digit, tile, closed, step, run};
-use figures::Reply;
 use figures::Tally;
 use tally::added;
 use tally::empty;

@@ -2,13 +2,12 @@
 use mathlib.Core.Path.{_≡_, refl, sym, ap, _∙_, subst}
 use mathlib.Core.Bool.{Bool, true, false, cond, _&&_, true≢false}
 use mathlib.Core.List.{List, [], _∷_, _++_, append-nil, append-assoc}
-use Prim.Native.Nat.{ℕ, zero, suc, _+_, _-_, _*_, _^_, _≤_, _<_}
+use Prim.Native.Nat.{ℕ, zero, suc, _+_, _-_, _*_, _≤_, _<_}
 use native.Mathlib.Omega.{arith}
-use borrow.Author.Tests.{ltb-true, ltb-false, leb-true, eqb-true, eqb-false, eq-eqb, ne-eqb}
+use borrow.Author.Tests.{ltb-true, ltb-false, leb-true, eqb-true, eqb-false, eq-eqb}
 use lib.Dec.{ltb, leb, eqb}
-use lib.ListN.{getD, drop}
 use Rattle.text.specs.Writing.{number}
-use Rattle.text.specs.Laws.{both}
+use Rattle.grid.specs.LoopLaws.{both}
 use Rattle.figures.specs.Figures.{Tile}
 use Rattle.figures.specs.Tallies.{refusal, next, outcome, none}
 use Rattle.figures.specs.Series.{figures, series, takenOf}
@@ -16,9 +15,9 @@ use Rattle.figures.specs.TallyLaws.{taken}
 use Rattle.figures.specs.Counted.{counted-taken}
 use Rattle.figures.specs.declared.Tally.{Tally}
 use Rattle.tiletext.specs.declared.Series.{Series}
-use Rattle.tiletext.specs.Lines.{line, lines, state, fresh, ended, endOf, mostOf, grown, digit, tile, closed, step, run, tallied, Takes, Stops, Told}
+use Rattle.tiletext.specs.Lines.{line, lines, state, fresh, ended, endOf, mostOf, grown, digit, closed, step, run, tallied, Takes, Stops, Told, Reads}
 use Rattle.tiletext.specs.DecimalLaws.{dec, number-is, dec-low, dec-more}
-use Rattle.tiletext.specs.StepLaws.{run-append, ended-stays, run-grows, most-low, step-end, step-digit, step-other, grown-on, grown-over, digit-on, digit-ends, tile-taken, tile-refused, line-run, line-one}
+use Rattle.tiletext.specs.StepLaws.{ended-stays, run-grows, most-low, step-end, step-digit, step-other, grown-on, grown-over, digit-on, digit-ends, tile-taken, tile-refused, line-run, line-one}
 
 -- ---- lines that are taken are read
 
@@ -171,11 +170,6 @@ no-more t l u e h r x v z q =
     let c : s′ .tiles ≡ s .tiles + 1 = rw z in
     let d : run (fresh s′) v .tally .tiles ≡ s .tiles = ap (λ (y : Tally). y .tiles) (sym a ∙ r) in
     omega arith
-
--- the tiles of a text
-pub record Reads (t : List ℕ) : Type 0 where
-  pub tiles : List Tile
-  pub told : Told t tiles
 
 pub told : (t : List ℕ) → Reads t
 told t =

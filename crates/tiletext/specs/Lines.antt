@@ -91,3 +91,8 @@ pub record Told (t : List ℕ) (l : List Tile) : Type 0 where
   pub text : t ≡ lines l ++ rest
   pub taken : Takes none l
   pub stops : Stops (series none l) rest
+
+-- the tiles of a text
+pub record Reads (t : List ℕ) : Type 0 where
+  pub tiles : List Tile
+  pub told : Told t tiles

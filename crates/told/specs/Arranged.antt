@@ -1,6 +1,8 @@
--- Values and columns in another order, one for both. Definitions only.
+-- Values and columns in another order, one for both; values that ascend. Definitions only.
 use mathlib.Core.Path.{_≡_}
+use mathlib.Core.Bool.{false}
 use Prim.Native.Nat.{ℕ, _*_, _<_}
+use lib.Ieee.{lt}
 use lib.ListN.{length}
 use Rattle.grid.specs.Real.{Vec, at}
 use Rattle.grid.specs.Cell.{at2}
@@ -21,3 +23,7 @@ pub record Arranged (n : ℕ) (x y : Vec × Vec) : Type 0 where
   pub vectors : (r k : ℕ) → r < n → k < n → at2 (y .0) n r k ≡ at2 (x .0) n r (π k)
   pub square : length (y .0) ≡ n * n
   pub long : length (y .1) ≡ n
+
+-- the values before i are where they belong
+unfoldable pub Ascends : ℕ → ℕ → Vec → Type 0
+Ascends n i d = (p q : ℕ) → p < q → p < i → q < n → lt (at d q) (at d p) ≡ false

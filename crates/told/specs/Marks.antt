@@ -2,7 +2,6 @@
 use mathlib.Core.Path.{_≡_, refl, sym, ap, _∙_, subst}
 use mathlib.Core.Logic.{_⊎_, ⊎-elim, inl, inr}
 use mathlib.Core.Bool.{Bool, true, false, cond, not}
-use mathlib.Core.List.{_++_}
 use Prim.Native.Nat.{ℕ, zero, suc, _+_, _*_, _-_, _≤_, _<_}
 use native.Mathlib.Numerals.{add-one}
 use native.Mathlib.Decide.{ℕ-discrete}
@@ -23,12 +22,12 @@ use Rattle.leaves.specs.declared.Bad.{Bad}
 use Rattle.leaves.specs.declared.Bad.the-variants.{At, Nowhere}
 use Rattle.answers.specs.Answers.{answered, done}
 use Rattle.answers.specs.Answers as answers
-use Rattle.answers.specs.declared.Answer.{Answer}
 use Rattle.pass.specs.Pass as pa
 use Rattle.transform.specs.Transform.{transformed}
 use Rattle.pass.specs.Pass.{tiny, mark1, judged, verdict, pass}
 use Rattle.turnends.specs.TurnEnds.{State, fresh, opened, ended, stopping, released, closed}
 use Rattle.turns.specs.Turns.{iterated, stage, turn, run}
+use Rattle.turns.specs.Bounds.{come}
 use Rattle.qlend.specs.QlEnd.{mark2, qlFinished}
 use Rattle.ql.specs.Ql.{movedUp, tql2}
 use Rattle.sort.specs.Sort.{sorted}
@@ -159,9 +158,7 @@ data Stood (n limit edition : ℕ) (first : Carried) (l : ℕ) (s : State) : Typ
   spent : s .0 .stop ≡ 9 → Halted n limit edition first used l s → Stood n limit edition first l s
   going : s .0 .stop ≡ 0 → Fine n s → Ran n limit edition first l (s .0 .count) (carried s) → Stood n limit edition first l s
 
--- the run comes to l
-abbrev come : ℕ → ℕ → State → State
-come n l x = (opened n l (x .0) (x .2) (x .3), x .1, x .2, x .3)
+-- ---- the run comes to l
 
 come-carried : (n l : ℕ) (x : State) → carried (come n l x) ≡ grown l (carried x)
 unfolding opened
@@ -203,7 +200,7 @@ closed-bad x = ⊎-elim
     (λ q i. cond (eqb (q i) 1) (released x) (cond (eqb (q i) 0) (stopping (x .0) 9, x .1, x .2, x .3) x))
     (λ q i. cond (eqb (q i) 1) (released x) (cond (eqb (q i) 0) (stopping (x .0) 9, x .1, x .2, x .3) x))
 
-closed-used : (x : State) → x .0 .stop ≡ 0 → closed x ≡ (stopping (x .0) 9, x .1, x .2, x .3)
+pub closed-used : (x : State) → x .0 .stop ≡ 0 → closed x ≡ (stopping (x .0) 9, x .1, x .2, x .3)
 unfolding closed
 closed-used x q = λ i. cond (eqb (q i) 1) (released x) (cond (eqb (q i) 0) (stopping (x .0) 9, x .1, x .2, x .3) x)
 

@@ -17,7 +17,7 @@ use Rattle.leaves.specs.Leaf.{isFinite}
 use Rattle.leaves.specs.Compare.{lt-self, lt-chain, lt-turn}
 use Rattle.sort.specs.Sort.{better, leastFrom, swapStep, swapped, sortStep, sorted}
 use Rattle.sort.specs.declared.Best.{Best}
-use Rattle.told.specs.Arranged.{Permutation, Arranged}
+use Rattle.told.specs.Arranged.{Arranged, Ascends}
 
 -- ---- two indices change places
 
@@ -214,10 +214,6 @@ one-step n i x h lv ld f = go (eqb (b .k) i) refl
         }
 
 -- ---- the sort
-
--- the values before i are where they belong
-pub Ascends : ℕ → ℕ → Vec → Type 0
-Ascends n i d = (p q : ℕ) → p < q → p < i → q < n → lt (at d q) (at d p) ≡ false
 
 arranged-step : (n i : ℕ) (x y z : Vec × Vec) → i < n → Arranged n x y → Step n i y z → Arranged n x z
 arranged-step n i x y z h a s =

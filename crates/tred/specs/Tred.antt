@@ -3,7 +3,7 @@
 -- Each loop of the Rust is one `upto` (or `down`, for `.rev()`) over the step defined above it. What a step changes comes last, in the order v, d, e, and in front
 -- of them the number that the Rust sums up; what it only reads stands before.
 use mathlib.Core.Bool.{cond}
-use Prim.Native.Nat.{ℕ, _+_, _*_, _-_}
+use Prim.Native.Nat.{ℕ, _+_, _-_}
 use lib.Ieee.{Float, neg, lt, eq, ne}
 use lib.ListN.{set}
 use Rattle.grid.specs.Loop.{upto, down}

@@ -23,7 +23,7 @@ use Rattle.checks.specs.Checks.{editionGood}
 use Rattle.tred.specs.Tred.{tred2}
 use Rattle.layout.specs.Layout.{columns, rows}
 use Rattle.aftertred.specs.AfterTred.{afterTred}
-use Rattle.eigen.specs.Eigen.{decomposed, cleared, given, entered, eigen}
+use Rattle.eigen.specs.Eigen.{decomposed, cleared, given, entered}
 use Rattle.eigen.specs.Lent.{outward, checks-pass}
 use Rattle.layout.specs.Copies.{columns-cell, columns-long}
 use Rattle.tri.specs.Tri.{triStep, tri}

@@ -70,7 +70,7 @@ closed-count x = go (eqb (x .0 .stop) 1) (eqb (x .0 .stop) 0)
     go false false = refl
 
 -- a run that has come to l
-abbrev come : ℕ → ℕ → State → State
+abbrev pub come : ℕ → ℕ → State → State
 come n l x = (opened n l (x .0) (x .2) (x .3), x .1, x .2, x .3)
 
 pub turn-count : (n limit edition l : ℕ) (x : State) → turn n limit edition l x .0 .count ≤ x .0 .count + limit

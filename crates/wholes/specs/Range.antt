@@ -1,10 +1,10 @@
 -- A whole number from -q to p, sums and products of such numbers, and that none leaves 64 bits. Laws only.
-use mathlib.Core.Path.{_≡_, refl, ap, sym, _∙_, subst}
+use mathlib.Core.Path.{_≡_, ap, sym, _∙_}
 use mathlib.Core.Bool.{Bool, true, false, not, cond, true≢false}
 use borrow.Author.Tests.{ltb-false}
 use lib.Ieee.{binary64, inFloat}
 use lib.Signed.{ltZ}
-use Prim.Native.Nat.{ℕ, zero, suc, _+_, _*_, _-_, _≤_, _<_, _^_}
+use Prim.Native.Nat.{ℕ, zero, suc, _+_, _*_, _-_, _≤_, _<_}
 use native.Mathlib.Nat.{mul-le-mul, le-trans, add-mul}
 use native.Mathlib.Omega.{arith}
 use lib.Dec.{T, ltb, ltb→lt, nltb→le, le→leb, lt→ltb, leb·suc-suc}

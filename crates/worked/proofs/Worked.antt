@@ -80,7 +80,7 @@ ones n = replicate n one64
 
 -- a call gives these numbers: (four numbers, work, result)
 unfoldable given : Row → List ℕ
-unfolding ofBits toBits number bits of-bits numbers ones add sub mul div neg lt le eq ne lo.seek lo.first lo.times lo.upto lo.down lo.rounds lo.drops lo.fall ta.table ta.rows ro.whole ro.rootOf ro.root le.magnitude le.larger le.isFinite le.hypotOf le.hypot sc.classOf sc.scan sc.placeOf sc.lowerOf sc.firstBadLower sc.byRows an.least an.present an.decompositionLength tr.scaleOf tr.skipRow tr.overScale tr.clear tr.against tr.generate tr.similarColumn tr.similarity tr.overH tr.lessen tr.updateColumn tr.updates tr.reflect tr.skip tr.reduce tr.householder tr.reduction tr.columnOver tr.columnDot tr.takeOff tr.turnColumns tr.clearColumn tr.apply tr.accumulate tr.accumulation tr.copyLast tr.moveLast tr.tred2 hy.hypot2 hy.rootOf ed.pythag tf.signed tf.shift tf.lessened tf.rotated tf.spin tf.spins tf.landed tf.transformed pa.mark1 pa.settled pa.verdict pa.pass ql.movedUp te.split te.opened tu.iterated te.closed tu.stage tu.turn tu.run st.leastFrom st.swapped st.sortStep st.sorted qe.mark2 qe.qlFinished ql.tql2 la.copyRow la.columns la.mirrorRow la.rows af.mark0 af.afterTred ei.decomposed ei.given ei.entered ei.eigen sw.gram sw.skipped sw.rotationOf sw.rotated sw.pairDone sw.pairsOf sw.sweep va.normSq va.divided va.normalStep va.normalised ja.verdict ja.swept ja.sweeps ja.finished ja.jacobi so.rank so.noted so.order re.longest re.workLength re.columnOut re.factorOut re.sortedOut sv.source sv.columnLoaded sv.matrixLoaded sv.eyed sv.loaded sv.checks sv.ran sv.svd sn.columnSum sn.coefficient sn.solution iv.inverse iv.pinvSum iv.inverted sl.solveChecks sl.inverseChecks sl.looked sl.solve sl.pseudoInverse gr.dot gr.lessened gr.lessColumns gr.lessColumnsTwice gr.norm un.over un.normalised un.putColumn un.finished qr.column qr.columns qr.checks qr.qrQ ch.limitGood ch.editionGood ch.fittingEdition ch.toleranceGood ch.lengths ch.fitting ma.factorsBad ma.allBad
+unfolding ofBits toBits number bits of-bits numbers ones add sub mul div neg lt le eq ne lo.seek lo.first lo.times lo.upto lo.down lo.rounds lo.drops lo.fall ta.table ta.rows ro.whole ro.rootOf ro.root le.magnitude le.larger le.isFinite le.hypotOf le.hypot sc.classOf sc.scan sc.placeOf sc.lowerOf sc.firstBadLower sc.byRows an.least an.present an.decompositionLength tr.scaleOf tr.skipRow tr.overScale tr.clear tr.against tr.generate tr.similarColumn tr.similarity tr.overH tr.lessen tr.updateColumn tr.updates tr.reflect tr.skip tr.reduce tr.householder tr.reduction tr.columnOver tr.columnDot tr.takeOff tr.turnColumns tr.clearColumn tr.apply tr.accumulate tr.accumulation tr.copyLast tr.moveLast tr.tred2 hy.hypot2 hy.rootOfSum ed.pythag tf.signed tf.shift tf.lessened tf.rotated tf.spin tf.spins tf.landed tf.transformed pa.mark1 pa.settled pa.verdict pa.pass ql.movedUp te.split te.opened tu.iterated te.closed tu.stage tu.turn tu.run st.leastFrom st.swapped st.sortStep st.sorted qe.mark2 qe.qlFinished ql.tql2 la.copyRow la.columns la.mirrorRow la.rows af.mark0 af.afterTred ei.decomposed ei.given ei.entered ei.eigen sw.gram sw.skipped sw.rotationOf sw.rotated sw.pairDone sw.pairsOf sw.sweep va.normSq va.divided va.normalStep va.normalised ja.verdict ja.swept ja.sweeps ja.finished ja.jacobi so.rank so.noted so.order re.longest re.workLength re.columnOut re.factorOut re.sortedOut sv.source sv.columnLoaded sv.matrixLoaded sv.eyed sv.loaded sv.checks sv.ran sv.svd sn.columnSum sn.coefficient sn.solution iv.inverse iv.pinvSum iv.inverted sl.solveChecks sl.inverseChecks sl.looked sl.solve sl.pseudoInverse gr.dot gr.lessened gr.lessColumns gr.lessColumnsTwice gr.norm un.over un.normalised un.putColumn un.finished qr.column qr.columns qr.checks qr.qrQ ch.limitGood ch.editionGood ch.fittingEdition ch.toleranceGood ch.lengths ch.fitting ma.factorsBad ma.allBad
 given (root x r) = toBits binary64 (ro.root (number x)) ∷ []
 given (hypot x y r) = toBits binary64 (le.hypot (number x) (number y)) ∷ []
 given (eigen n matrix answer place index count result) =

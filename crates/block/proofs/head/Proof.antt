@@ -8,7 +8,7 @@ use Rattle.block.proofs.head.Tie as tie
 
 returns : tie.Need-returns
 unfolding headAnswer
-returns c = rw (le-leb _ _ (c .if1 .taken))
+returns c = rw (le-leb (c .before .args .kind) (c .before .args .last) (c .if1 .taken))
 
 returns-2 : tie.Need-returns-2
 unfolding headAnswer

@@ -8,7 +8,7 @@ use native.Mathlib.Nat.{le-refl, add-comm}
 use lib.Dec.{T}
 use lib.Ieee.{Float, binary64, fits}
 use Rattle.root.proofs.Patterns.{no-nan}
-use Rattle.nearest.specs.Hypot2.{rootOf, hypot2}
+use Rattle.nearest.specs.Hypot2.{rootOfSum, hypot2}
 use Rattle.rounding.specs.Parts.{val}
 use Rattle.nearest.specs.NearestEven.{NearestEven}
 use lib.Ieee.Scale.{finite}
@@ -33,11 +33,11 @@ less a n h = omega arith
 
 -- two finite numbers, by their patterns
 of-patterns : (x y v : Float) (a b : ℕ) → T (fits binary64 x) → T (fits binary64 y) → a ≡ bitsOf x → b ≡ bitsOf y → a < 0x7ff0_0000_0000_0000 → b < 0x7ff0_0000_0000_0000
-    → v ≡ rootOf (val a * val a + val b * val b) → v ≡ hypot2 x y
+    → v ≡ rootOfSum (val a * val a + val b * val b) → v ≡ hypot2 x y
 of-patterns x y v a b f g p q h k e =
     e
-    ∙ ap (λ (z : ℕ). rootOf (val z * val z + val b * val b)) p
-    ∙ ap (λ (z : ℕ). rootOf (val (bitsOf x) * val (bitsOf x) + val z * val z)) q
+    ∙ ap (λ (z : ℕ). rootOfSum (val z * val z + val b * val b)) p
+    ∙ ap (λ (z : ℕ). rootOfSum (val (bitsOf x) * val (bitsOf x) + val z * val z)) q
     ∙ sym (both-finite x y f g (subst (λ (z : ℕ). z < 0x7ff0_0000_0000_0000) p h) (subst (λ (z : ℕ). z < 0x7ff0_0000_0000_0000) q k))
 
 pattern-requires : tie.Need-pattern-requires
@@ -77,7 +77,7 @@ float-from-bits-result-3 : tie.Need-float-from-bits-result-3
 float-from-bits-result-3 c = no-nan (c .length .result) (c .length .ensures .1)
 
 returns-5 : tie.Need-returns-5
-returns-5 c = both (c .before .before .before .before .before .before .before .before) _ (of-patterns (c .before .before .before .before .before .before .before .before .args .x) (c .before .before .before .before .before .before .before .before .args .y) _ (c .before .before .before .before .before .before .before .pattern .result) (c .before .before .before .before .before .before .pattern2 .result) (held-x (c .before .before .before .before .before .before .before .before)) (held-y (c .before .before .before .before .before .before .before .before)) (c .before .before .before .before .before .before .before .pattern .ensures) (c .before .before .before .before .before .before .pattern2 .ensures) (less _ (c .before .before .before .before .before .if1 .left) (c .before .before .before .if3 .left)) (less _ (c .before .before .before .before .if2 .left) (c .before .before .if4 .left)) (c .length .ensures .0 ∙ ap rootOf (add-comm (val (c .before .before .before .before .before .before .pattern2 .result) * val (c .before .before .before .before .before .before .pattern2 .result)) (val (c .before .before .before .before .before .before .before .pattern .result) * val (c .before .before .before .before .before .before .before .pattern .result)))))
+returns-5 c = both (c .before .before .before .before .before .before .before .before) _ (of-patterns (c .before .before .before .before .before .before .before .before .args .x) (c .before .before .before .before .before .before .before .before .args .y) _ (c .before .before .before .before .before .before .before .pattern .result) (c .before .before .before .before .before .before .pattern2 .result) (held-x (c .before .before .before .before .before .before .before .before)) (held-y (c .before .before .before .before .before .before .before .before)) (c .before .before .before .before .before .before .before .pattern .ensures) (c .before .before .before .before .before .before .pattern2 .ensures) (less _ (c .before .before .before .before .before .if1 .left) (c .before .before .before .if3 .left)) (less _ (c .before .before .before .before .if2 .left) (c .before .before .if4 .left)) (c .length .ensures .0 ∙ ap rootOfSum (add-comm (val (c .before .before .before .before .before .before .pattern2 .result) * val (c .before .before .before .before .before .before .pattern2 .result)) (val (c .before .before .before .before .before .before .before .pattern .result) * val (c .before .before .before .before .before .before .before .pattern .result)))))
 
 length-requires-2 : tie.Need-length-requires-2
 length-requires-2 c κs = search needs

@@ -1,12 +1,15 @@
 -- Generated from the answers file beside it by tools/prove/prove.py: edit that.
 -- `layout::copy_row` meets its contract.
-use mathlib.Core.Path.{_≡_, refl}
+use mathlib.Core.Path.{refl}
 use Prim.Native.Nat.{_-_, _≤_}
 use native.Mathlib.Omega.{arith}
 use borrow.Author.Needs.{needs}
 use lib.ListN.{length}
 use Rattle.grid.specs.Loop.{upto}
 use Rattle.grid.specs.LoopLaws.{start, next, done}
+use mathlib.Core.Path.{_≡_}
+use denote.Ref.{now}
+use Rattle.grid.specs.Cell.{entry}
 use Rattle.layout.specs.Layout.{copyStep, copyRow}
 use Rattle.layout.proofs.copy_row.Statement.{statement}
 use Rattle.layout.proofs.copy_row.Tie as tie
@@ -33,7 +36,7 @@ loop-less : tie.Need-loop-less Inv-loop μ-loop
 loop-less c = omega arith
 
 loop-again : tie.Need-loop-again Inv-loop μ-loop
-loop-again c = (omega arith, omega arith, next _ _ _ _ (omega arith) (c .before .before .before .before .before .before .loop .inv .2) (rw (← c .before .before .before .entry .ensures, ← c .before .before .put .ensures)))
+loop-again c = let read : c .before .before .before .entry .result ≡ entry (now (c .before .before .before .before .before .before .before .before .before .args .a)) (c .before .before .before .before .before .before .before .before .before .args .n) (c .before .before .before .before .before .before .before .before .before .args .i) (c .before .before .before .before .before .before .loop .j) = c .before .before .before .entry .ensures in (omega arith, omega arith, next _ _ _ _ (omega arith) (c .before .before .before .before .before .before .loop .inv .2) (rw (← read, ← c .before .before .put .ensures)))
 
 same-length : tie.Need-same-length Inv-loop μ-loop
 same-length c = omega arith

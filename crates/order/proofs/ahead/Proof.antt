@@ -25,7 +25,7 @@ returns-2 : tie.Need-returns-2
 returns-2 c = rw (← c .before .before .before .at1 .ensures, ← c .before .before .at12 .ensures, c .before .if1 .left, c .if2 .taken)
 
 returns-3 : tie.Need-returns-3
-returns-3 c = rw (← c .before .before .before .before .at1 .ensures, ← c .before .before .before .at12 .ensures, c .before .before .if1 .left, c .before .if2 .left, lt-ltb _ _ (c .if3 .taken))
+returns-3 c = rw (← c .before .before .before .before .at1 .ensures, ← c .before .before .before .at12 .ensures, c .before .before .if1 .left, c .before .if2 .left, lt-ltb (c .before .before .before .before .before .before .args .j) (c .before .before .before .before .before .before .args .k) (c .if3 .taken))
 
 returns-4 : tie.Need-returns-4
 returns-4 c = rw (← c .before .before .before .before .at1 .ensures, ← c .before .before .before .at12 .ensures, c .before .before .if1 .left, c .before .if2 .left, le-ltb _ _ (c .if3 .left))

@@ -2,6 +2,12 @@
 -- `ql::tql2` meets its contract.
 use native.Mathlib.Omega.{arith}
 use borrow.Author.Needs.{needs}
+use mathlib.Core.Path.{ap, _∙_}
+use denote.Ref.{now}
+use Rattle.grid.specs.Real.{Vec}
+use Rattle.turnends.specs.TurnEnds.{fresh}
+use Rattle.turns.specs.Turns.{run}
+use Rattle.qlend.specs.QlEnd.{qlFinished}
 use Rattle.ql.specs.Ql.{tql2}
 use Rattle.ql.proofs.tql2.Statement.{statement}
 use Rattle.ql.proofs.tql2.Tie as tie
@@ -26,7 +32,7 @@ same-length-3 c = omega arith
 
 returns : tie.Need-returns
 unfolding tql2
-returns c = rw (← c .before .before .before .before .before .before .before .before .before .before .before .before .before .before .before .before .before .before .before .move-up .ensures, ← c .before .before .before .before .before .before .before .before .before .before .before .before .before .run .ensures) (c .before .before .before .before .finish .ensures _)
+returns c = c .before .before .before .before .finish .ensures _ ∙ ap (qlFinished (c .before .before .before .before .before .before .before .before .before .before .before .before .before .before .before .before .before .before .before .before .before .before .before .before .args .n)) (c .before .before .before .before .before .before .before .before .before .before .before .before .before .run .ensures ∙ ap (λ (x : Vec). run (c .before .before .before .before .before .before .before .before .before .before .before .before .before .before .before .before .before .before .before .before .before .before .before .before .args .n) (c .before .before .before .before .before .before .before .before .before .before .before .before .before .before .before .before .before .before .before .before .before .before .before .before .args .limit) (c .before .before .before .before .before .before .before .before .before .before .before .before .before .before .before .before .before .before .before .before .before .before .before .before .args .edition) (fresh, now (c .before .before .before .before .before .before .before .before .before .before .before .before .before .before .before .before .before .before .before .before .before .before .before .before .args .v), now (c .before .before .before .before .before .before .before .before .before .before .before .before .before .before .before .before .before .before .before .before .before .before .before .before .args .d), x)) (c .before .before .before .before .before .before .before .before .before .before .before .before .before .before .before .before .before .before .before .move-up .ensures))
 
 pub tql2-spec : {M : Type 1} → statement M
 tql2-spec =

@@ -32,7 +32,7 @@ least-requires c κs = search needs
 
 returns-4 : tie.Need-returns-4
 unfolding rowSpan
-returns-4 c = (rw (le-leb _ _ (c .before .before .before .before .if1 .left), le-leb _ _ (c .before .before .before .if2 .left), ne-eqb _ _ (c .before .before .if3 .left), ← c .before .least .ensures, le-ltb _ _ (c .if4 .taken)), tt)
+returns-4 c = (rw (le-leb _ _ (c .before .before .before .before .if1 .left), le-leb _ _ (c .before .before .before .if2 .left), ne-eqb _ _ (c .before .before .if3 .left), ← c .before .least .ensures, le-ltb (c .before .before .before .before .before .args .j) (c .before .least .result) (c .if4 .taken)), tt)
 
 decomposition-length-requires : tie.Need-decomposition-length-requires
 decomposition-length-requires c κs = search needs

@@ -8,7 +8,7 @@ use lib.ListN.{length}
 use Rattle.grid.specs.Loop.{upto}
 use Rattle.grid.specs.LoopLaws.{start, next, done}
 use mathlib.Core.Bool.{true}
-use Rattle.leaves.specs.Finite.{allStep, allFinite}
+use Rattle.leaves.specs.FiniteLaws.{allStep, allFinite}
 use Rattle.scan.proofs.all_finite.Statement.{statement}
 use Rattle.scan.proofs.all_finite.Tie as tie
 

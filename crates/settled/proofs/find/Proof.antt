@@ -3,12 +3,12 @@
 use native.Mathlib.Omega.{arith}
 use borrow.Author.Needs.{needs}
 use borrow.Author.Tests.{eq-eqb, ne-eqb}
-use Rattle.settled.specs.Settled.{found}
+use Rattle.settled.specs.Settled.{foundL}
 use Rattle.settled.proofs.find.Statement.{statement}
 use Rattle.settled.proofs.find.Tie as tie
 
 returns : tie.Need-returns
-unfolding found
+unfolding foundL
 returns c = λ v. rw (ne-eqb _ _ (c .if1 .taken))
 
 skip-requires : tie.Need-skip-requires
@@ -21,7 +21,7 @@ same-length-2 : tie.Need-same-length-2
 same-length-2 c = omega arith
 
 returns-2 : tie.Need-returns-2
-unfolding found
+unfolding foundL
 returns-2 c = λ v. rw (eq-eqb _ _ (c .before .before .before .before .before .before .before .if1 .left)) (c .before .before .before .before .skip .ensures v)
 
 pub find-spec : {M : Type 1} → statement M

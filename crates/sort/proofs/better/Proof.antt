@@ -1,6 +1,9 @@
 -- Generated from the answers file beside it by tools/prove/prove.py: edit that.
 -- `sort::better` meets its contract.
 use borrow.Author.Needs.{needs}
+use mathlib.Core.Path.{_≡_}
+use mathlib.Core.Bool.{true, false}
+use lib.Ieee.{lt}
 use Rattle.sort.specs.Sort.{better}
 use Rattle.sort.proofs.better.Statement.{statement}
 use Rattle.sort.proofs.better.Tie as tie
@@ -9,10 +12,10 @@ at1-requires : tie.Need-at1-requires
 at1-requires c κs = search needs
 
 returns : tie.Need-returns
-returns c = rw (← c .before .before .at1 .ensures, c .if1 .taken)
+returns c = let less : lt (c .before .before .at1 .result) (c .before .before .before .before .args .b .p) ≡ true = c .if1 .taken in rw (← c .before .before .at1 .ensures, less)
 
 returns-2 : tie.Need-returns-2
-returns-2 c = rw (← c .before .before .at1 .ensures, c .if1 .left)
+returns-2 c = let not-less : lt (c .before .before .at1 .result) (c .before .before .before .before .args .b .p) ≡ false = c .if1 .left in rw (← c .before .before .at1 .ensures, not-less)
 
 pub better-spec : {M : Type 1} → statement M
 better-spec = tie.close (tie.spec at1-requires returns returns-2)

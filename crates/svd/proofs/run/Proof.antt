@@ -50,7 +50,7 @@ same-length-2 c = search needs
 
 returns : tie.Need-returns
 unfolding ran loaded
-returns c = let same : length (c .before .before .before .before .before .before .before .before .before .before .before .jacobi .last .1 .1 .1 .0) ≡ length (now (c .before .before .before .before .before .before .before .before .before .before .before .before .before .before .before .before .before .before .before .before .before .before .before .before .before .before .args .w)) = omega arith in rw (← c .before .before .before .before .before .before .before .before .before .before .before .before .before .before .before .before .before .before .before .before .before .before .longest .ensures, ← c .before .before .before .before .before .before .before .before .before .before .before .before .before .before .before .before .before .before .before .before .before .least .ensures, ← c .before .before .before .before .before .before .before .before .before .before .before .before .before .before .before .before .before .before .before .load-matrix .ensures, ← c .before .before .before .before .before .before .before .before .before .before .before .before .before .before .before .load-eye .ensures, ← c .before .before .before .before .before .before .before .before .before .before .before .jacobi .ensures, ← c .before .before .before .before .before .before .hand-over .ensures, ← same, ← c .before .before .fill .ensures)
+returns c = let same : length (c .before .before .before .before .before .before .before .before .before .before .before .jacobi .last .1 .1 .1 .0) ≡ length (now (c .before .before .before .before .before .before .before .before .before .before .before .before .before .before .before .before .before .before .before .before .before .before .before .before .before .before .args .w)) = omega arith in let cleared : _ ≡ zeros (length (c .before .before .before .before .before .before .before .before .before .before .before .jacobi .last .1 .1 .1 .0)) = c .before .before .fill .ensures in rw (← c .before .before .before .before .before .before .before .before .before .before .before .before .before .before .before .before .before .before .before .before .before .before .longest .ensures, ← c .before .before .before .before .before .before .before .before .before .before .before .before .before .before .before .before .before .before .before .before .before .least .ensures, ← c .before .before .before .before .before .before .before .before .before .before .before .before .before .before .before .before .before .before .before .load-matrix .ensures, ← c .before .before .before .before .before .before .before .before .before .before .before .before .before .before .before .load-eye .ensures, ← c .before .before .before .before .before .before .before .before .before .before .before .jacobi .ensures, ← c .before .before .before .before .before .before .hand-over .ensures, ← same, ← cleared)
 
 pub run-spec : {M : Type 1} → statement M
 run-spec =

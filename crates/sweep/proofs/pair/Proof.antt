@@ -2,7 +2,8 @@
 -- `sweep::pair` meets its contract.
 use native.Mathlib.Omega.{arith}
 use borrow.Author.Needs.{needs}
-use Rattle.sweep.specs.Sweep.{pairDone}
+use mathlib.Core.Path.{_≡_}
+use Rattle.sweep.specs.Sweep.{vAt, rotated, pairDone}
 use native.Mathlib.Nat.{mul-comm}
 use Rattle.grid.specs.TableLaws.{row-end}
 use Rattle.sweep.proofs.pair.Statement.{statement}
@@ -65,7 +66,7 @@ same-length-2 c = omega arith
 
 returns-2 : tie.Need-returns-2
 unfolding pairDone
-returns-2 c = rw (← c .before .before .before .before .before .before .before .before .before .before .before .gram .ensures, ← c .before .before .before .before .before .before .before .before .before .before .skipped .ensures, c .before .before .before .before .before .before .before .before .before .if1 .left, ← c .before .before .before .before .before .before .before .before .rotation-of .ensures, ← c .before .before .before .before .before .before .rotate .ensures, ← c .before .before .rotate2 .ensures)
+returns-2 c = let second : _ ≡ rotated (vAt (c .before .before .before .before .before .before .before .before .before .before .before .before .before .before .args .rows) (c .before .before .before .before .before .before .before .before .before .before .before .before .before .before .args .cols) (c .before .before .before .before .before .before .before .before .before .before .before .before .before .before .args .p)) (vAt (c .before .before .before .before .before .before .before .before .before .before .before .before .before .before .args .rows) (c .before .before .before .before .before .before .before .before .before .before .before .before .before .before .args .cols) (c .before .before .before .before .before .before .before .before .before .before .before .before .before .before .args .q)) (c .before .before .before .before .before .before .before .before .before .before .before .before .before .before .args .cols) _ _ = c .before .before .rotate2 .ensures in rw (← c .before .before .before .before .before .before .before .before .before .before .before .gram .ensures, ← c .before .before .before .before .before .before .before .before .before .before .skipped .ensures, c .before .before .before .before .before .before .before .before .before .if1 .left, ← c .before .before .before .before .before .before .before .before .rotation-of .ensures, ← c .before .before .before .before .before .before .rotate .ensures, ← second)
 
 pub pair-spec : {M : Type 1} → statement M
 pair-spec =

@@ -8,7 +8,8 @@ use Prim.Native.Nat.{ℕ, _+_}
 use lib.Ieee.{Float}
 use Rattle.grid.specs.Real.{Vec}
 use Rattle.grid.specs.Cell.{entry}
-use Rattle.symmetric.specs.Symmetry.{Fours, both}
+use Rattle.symmetric.specs.Symmetry.{Fours}
+use Rattle.grid.specs.LoopLaws.{both}
 use denote.Ref.{now}
 use Rattle.symmetric.proofs.four_same.Statement.{statement}
 use Rattle.symmetric.proofs.four_same.Tie as tie

@@ -3,8 +3,9 @@
 use mathlib.Core.Path.{_≡_, sym, subst}
 use Prim.Native.Nat.{ℕ, _-_, _≤_}
 use native.Mathlib.Omega.{arith}
-use Rattle.figures.specs.Tallies.{every, smallAt, small}
-use Rattle.figures.specs.TallyLaws.{every-none, every-more, every-fails}
+use Rattle.figures.specs.Tallies.{smallAt, small}
+use Rattle.grid.specs.Loop.{every}
+use Rattle.grid.specs.LoopLaws.{every-none, every-more, every-fails}
 use borrow.Author.Tests.{lt-leb, le-leb}
 use mathlib.Core.Bool.{true}
 use native.Mathlib.Nat.{le-antisymm}

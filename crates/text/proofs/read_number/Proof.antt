@@ -31,7 +31,7 @@ returns-2 c = rw (← c .before .before .before .before .byte .ensures, ← c .b
 
 returns-3 : tie.Need-returns-3
 unfolding numberAt numberOf
-returns-3 c = rw (← c .before .before .before .before .before .byte .ensures, ← c .before .before .before .before .value .ensures, ← c .before .before .byte2 .ensures, lt-leb _ _ (c .before .before .before .if1 .left), ne-eqb _ _ (c .before .if2 .left), eq-eqb _ _ (c .if3 .taken))
+returns-3 c = rw (← c .before .before .before .before .before .byte .ensures, ← c .before .before .before .before .value .ensures, ← c .before .before .byte2 .ensures, lt-leb _ _ (c .before .before .before .if1 .left), ne-eqb _ _ (c .before .if2 .left), eq-eqb (c .before .before .before .before .value .result) 0 (c .if3 .taken))
 
 value-requires-2 : tie.Need-value-requires-2
 value-requires-2 c κs = search needs

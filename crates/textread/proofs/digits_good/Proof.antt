@@ -5,8 +5,9 @@ use Prim.Native.Nat.{ℕ, _-_, _≤_}
 use native.Mathlib.Omega.{arith}
 use borrow.Author.Needs.{needs}
 use borrow.Author.Tests.{lt-ltb, le-ltb}
-use Rattle.text.specs.Reading.{digitAt, every, value}
-use Rattle.text.specs.Laws.{every-none, every-more, every-fails}
+use Rattle.text.specs.Reading.{digitAt, value}
+use Rattle.grid.specs.Loop.{every}
+use Rattle.grid.specs.LoopLaws.{every-none, every-more, every-fails}
 use mathlib.Core.Bool.{true}
 use native.Mathlib.Nat.{le-antisymm}
 use denote.Ref.{now}

@@ -6,9 +6,11 @@ use native.Mathlib.Omega.{arith}
 use borrow.Author.Needs.{needs}
 use lib.ListN.{length, set}
 use lib.Seq.{sets}
-use Rattle.text.specs.Reading.{table, digitAt, groupAt, every, byte}
+use Rattle.text.specs.Reading.{table, digitAt, groupAt}
+use Rattle.octets.specs.Bytes.{byte}
+use Rattle.grid.specs.Loop.{every}
 use Rattle.text.specs.Writing.{separator}
-use Rattle.text.specs.Laws.{both, every-at}
+use Rattle.grid.specs.LoopLaws.{both, every-at}
 use Rattle.text.specs.Stores.{floatAt, table-more}
 use Rattle.octets.specs.Bits.{float}
 use lib.Ieee.{Float}

@@ -3,8 +3,9 @@
 use mathlib.Core.Path.{_≡_, sym, subst}
 use Prim.Native.Nat.{ℕ, _-_, _*_, _<_, _≤_}
 use native.Mathlib.Omega.{arith}
-use Rattle.text.specs.Reading.{groupAt, every}
-use Rattle.text.specs.Laws.{every-none, every-more, every-fails}
+use Rattle.text.specs.Reading.{groupAt}
+use Rattle.grid.specs.Loop.{every}
+use Rattle.grid.specs.LoopLaws.{every-none, every-more, every-fails}
 use borrow.Author.Tests.{not-true, not-false}
 use mathlib.Core.Bool.{true}
 use native.Mathlib.Nat.{le-antisymm}

@@ -4,7 +4,8 @@ use mathlib.Core.Path.{_≡_, _∙_, refl, ap}
 use Prim.Native.Nat.{ℕ, _+_, _-_, _*_, _<_, _≤_}
 use native.Mathlib.Omega.{arith}
 use borrow.Author.Needs.{needs}
-use Rattle.text.specs.Reading.{digitAt, valueAt, every, horner, wordAt}
+use Rattle.grid.specs.Loop.{every}
+use Rattle.text.specs.Reading.{digitAt, valueAt, horner, wordAt}
 use Rattle.text.specs.Laws.{horner-more, horner-fits}
 use native.Mathlib.Nat.{le-antisymm}
 use denote.Ref.{now}

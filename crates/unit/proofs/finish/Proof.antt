@@ -2,6 +2,8 @@
 -- `unit::finish` meets its contract.
 use native.Mathlib.Omega.{arith}
 use borrow.Author.Needs.{needs}
+use mathlib.Core.Path.{_≡_}
+use Rattle.leaves.specs.Leaf.{isFinite}
 use Rattle.unit.specs.Unit.{finished}
 use Rattle.unit.proofs.finish.Statement.{statement}
 use Rattle.unit.proofs.finish.Tie as tie
@@ -26,7 +28,7 @@ same-length-2 c = omega arith
 
 returns : tie.Need-returns
 unfolding finished
-returns c = rw (← c .before .before .before .before .before .before .before .before .before .before .before .is-finite .ensures, c .before .before .before .before .before .before .before .before .before .before .if1 .taken, ← c .before .before .before .before .before .before .before .before .normalise .ensures, ← c .before .before .before .put-column .ensures, c .done .ensures)
+returns c = let looked : c .before .before .before .before .before .before .before .before .before .before .before .is-finite .result ≡ isFinite (c .before .before .before .before .before .before .before .before .before .before .before .before .before .before .args .by) = c .before .before .before .before .before .before .before .before .before .before .before .is-finite .ensures in rw (← looked, c .before .before .before .before .before .before .before .before .before .before .if1 .taken, ← c .before .before .before .before .before .before .before .before .normalise .ensures, ← c .before .before .before .put-column .ensures, c .done .ensures)
 
 class-of-requires : tie.Need-class-of-requires
 class-of-requires c κs = search needs
@@ -42,7 +44,7 @@ same-length-3 c = omega arith
 
 returns-2 : tie.Need-returns-2
 unfolding finished
-returns-2 c = rw (← c .before .before .before .before .before .before .before .is-finite .ensures, c .before .before .before .before .before .before .if1 .left, ← c .before .before .before .before .before .class-of .ensures, ← c .before .before .before .before .answered .ensures) (c .before .before .refuse .ensures)
+returns-2 c = let looked : c .before .before .before .before .before .before .before .is-finite .result ≡ isFinite (c .before .before .before .before .before .before .before .before .before .before .args .by) = c .before .before .before .before .before .before .before .is-finite .ensures in rw (← looked, c .before .before .before .before .before .before .if1 .left, ← c .before .before .before .before .before .class-of .ensures, ← c .before .before .before .before .answered .ensures) (c .before .before .refuse .ensures)
 
 pub finish-spec : {M : Type 1} → statement M
 finish-spec =

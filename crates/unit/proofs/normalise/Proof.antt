@@ -2,6 +2,10 @@
 -- `unit::normalise` meets its contract.
 use native.Mathlib.Omega.{arith}
 use borrow.Author.Needs.{needs}
+use mathlib.Core.Path.{_≡_}
+use mathlib.Core.Bool.{true, false}
+use lib.Ieee.{lt}
+use Rattle.grid.specs.Real.{epsilon}
 use Rattle.unit.specs.Unit.{normalised}
 use Rattle.unit.proofs.normalise.Statement.{statement}
 use Rattle.unit.proofs.normalise.Tie as tie
@@ -17,14 +21,14 @@ same-length c = omega arith
 
 returns : tie.Need-returns
 unfolding normalised
-returns c = rw (c .before .before .before .before .if1 .taken) (c .before .before .over .ensures)
+returns c = let above : lt epsilon (c .before .before .before .before .before .before .args .by) ≡ true = c .before .before .before .before .if1 .taken in rw above (c .before .before .over .ensures)
 
 same-length-2 : tie.Need-same-length-2
 same-length-2 c = omega arith
 
 returns-2 : tie.Need-returns-2
 unfolding normalised
-returns-2 c = rw (c .before .before .before .before .if1 .left) (c .before .before .fill .ensures)
+returns-2 c = let not-above : lt epsilon (c .before .before .before .before .before .before .args .by) ≡ false = c .before .before .before .before .if1 .left in rw not-above (c .before .before .fill .ensures)
 
 pub normalise-spec : {M : Type 1} → statement M
 normalise-spec =

@@ -2,6 +2,10 @@
 -- `values::normalise_column` meets its contract.
 use native.Mathlib.Omega.{arith}
 use borrow.Author.Needs.{needs}
+use mathlib.Core.Path.{_≡_}
+use mathlib.Core.Bool.{true, false}
+use lib.Ieee.{lt}
+use Rattle.grid.specs.Real.{zero64}
 use Rattle.values.specs.Values.{normalStep}
 use native.Mathlib.Nat.{mul-comm}
 use Rattle.grid.specs.TableLaws.{row-end}
@@ -43,14 +47,14 @@ same-length c = omega arith
 
 returns : tie.Need-returns
 unfolding normalStep
-returns c = rw (← c .before .before .before .before .before .before .before .before .before .before .norm-sq .ensures, ← c .before .before .before .before .before .before .before .before .before .root .ensures .0, ← c .before .before .before .before .before .before .before .put1 .ensures, c .before .before .before .before .if1 .taken) (c .before .before .divide .ensures)
+returns c = let above : lt zero64 (c .before .before .before .before .before .before .before .before .before .root .result) ≡ true = c .before .before .before .before .if1 .taken in rw (← c .before .before .before .before .before .before .before .before .before .before .norm-sq .ensures, ← c .before .before .before .before .before .before .before .before .before .root .ensures .0, ← c .before .before .before .before .before .before .before .put1 .ensures, above) (c .before .before .divide .ensures)
 
 same-length-2 : tie.Need-same-length-2
 same-length-2 c = omega arith
 
 returns-2 : tie.Need-returns-2
 unfolding normalStep
-returns-2 c = rw (← c .before .before .before .before .before .before .norm-sq .ensures, ← c .before .before .before .before .before .root .ensures .0, ← c .before .before .before .put1 .ensures, c .if1 .left)
+returns-2 c = let not-above : lt zero64 (c .before .before .before .before .before .root .result) ≡ false = c .if1 .left in rw (← c .before .before .before .before .before .before .norm-sq .ensures, ← c .before .before .before .before .before .root .ensures .0, ← c .before .before .before .put1 .ensures, not-above)
 
 pub normalise-column-spec : {M : Type 1} → statement M
 normalise-column-spec =
