@@ -661,7 +661,7 @@ struct crewelmarsh_answer crewelmarsh_lanczos(
  *     run = crewelmarsh_eigen_finish(run, work, n, result, n + n * n);
  *     if (run.answer.answer != CREWELMARSH_DONE) ...
  *
- * A step costs one pass: at n = 256 up to 0.06 ms of a run of some 20 ms (docs/BENCHMARKS.md). The start costs more, since the
+ * A step costs one pass: at n = 256 some 0.06 ms of a run of some 20 ms (docs/BENCHMARKS.md). The start costs more, since the
  * reduction is not divided: a quarter of the run or more. The finish looks once at each number, and sorts: 0.15 ms.
  *
  * While a run goes on its stop is 0, and e, d and v stand in work, at the front of the result and behind it. What symmetric_eigen says of the arrays on 0
