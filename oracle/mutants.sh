@@ -12,7 +12,7 @@ done
 out=target/mutants
 mkdir -p $out
 rm -f $out/*.o
-wanted="boundary: $(sed -n 's/^BOUNDARY_CHECKS := //p' ../tools/c.mk) checks, 0 failed"
+wanted="boundary: $(sed -n 's/^boundary-checks //p' ../tools/counts) checks, 0 failed"
 
 $CC -std=c99 -O1 -ffp-contract=off -c runner.c -o $out/runner.o
 for test in ../tests/*.c; do

@@ -32,13 +32,12 @@ MAJOR := $(call said,MAJOR)
 VERSION := $(MAJOR).$(call said,MINOR).$(call said,PATCH)
 ENTRIES := $(shell sed -n 's/^.define \(crewelmarsh_[a-z_]*\) CREWELMARSH_NAME.*/\1_abi$(MAJOR)/p' include/crewelmarsh.h)
 
-# How many checks the boundary's test makes.
-BOUNDARY_CHECKS := 170758
+# tools/counts has how many checks the boundary's test makes, and how many cases the oracle's list of lanczos has, which its runner (oracle/runner.c) puts through the archive.
+counted = $(shell sed -n 's/^$(1) //p' tools/counts)
+BOUNDARY_CHECKS := $(call counted,boundary-checks)
+LIST_CASES := $(call counted,list-cases)
 BOUNDARY_PARTS := boundary check eigen svd row solve qr marks sizes numbers block covariance store steps tally lanczos header header_cpp
 BOUNDARY_OBJECTS := $(BOUNDARY_PARTS:%=build/tests/%.o)
-
-# How many cases the oracle's list of lanczos has, which its runner (oracle/runner.c) puts through the archive.
-LIST_CASES := 608
 
 TARGET_FLAGS := --target=x86_64-unknown-linux-gnu -march=x86-64 --no-default-config \
     -nostdinc -isystem tools/headers -Iinclude -O2 -ffp-contract=off -fPIC
@@ -104,14 +103,14 @@ boundary-header: $(HEADERS)
 boundary-run: build/tests/boundary
 	@if ! $(RUN) $< >build/tests/boundary.out; then cat build/tests/boundary.out; exit 1; fi
 	@cat build/tests/boundary.out
-	@tail -n 1 build/tests/boundary.out | grep -qx 'boundary: $(BOUNDARY_CHECKS) checks, 0 failed' || \
+	@tail -n 1 build/tests/boundary.out | grep -qxF 'boundary: $(BOUNDARY_CHECKS) checks, 0 failed' || \
 	    { echo 'boundary: $(BOUNDARY_CHECKS) checks were expected'; exit 1; }
 
 # Here too: a list that lost cases is not the list.
 boundary-list: build/tests/runner tests/vectors/lanczos.list
 	@if ! $(RUN) $< <tests/vectors/lanczos.list >build/tests/runner.out; then cat build/tests/runner.out; exit 1; fi
 	@tail -n 1 build/tests/runner.out | sed 's/^/list of lanczos: /'
-	@tail -n 1 build/tests/runner.out | grep -qx '$(LIST_CASES) cases, 0 differ' || \
+	@tail -n 1 build/tests/runner.out | grep -qxF '$(LIST_CASES) cases, 0 differ' || \
 	    { echo 'list of lanczos: $(LIST_CASES) cases were expected'; exit 1; }
 
 # Linked anew each time, whichever archive is asked for.

@@ -1,7 +1,7 @@
 #!/bin/sh
 # kit.sh: whether the toolchain is the one that the proofs were made with, the line in the file `kit` beside this. The whole line of `rt version`
 # is held, not the logic's sum alone: which needs a function has and how they are named, what counts as proved, and the compiler behind
-# the archive come with the kit's other parts, which the sum says nothing of. KIT_ANY=1 goes on with any kit.
+# the archive come with the kit's other parts, which the sum says nothing of. KIT_ANY=1 goes on with any kit, but not in the gate.
 set -u
 RT=${RT:-rt}
 tried=$(cat "$(dirname "$0")/kit")
@@ -15,5 +15,5 @@ if [ "${KIT_ANY:-}" = 1 ]; then
     echo "kit: found $found; tried is $tried; going on, as KIT_ANY=1 says" >&2
     exit 0
 fi
-echo "kit: found $found; these proofs were tried with $tried alone. Use that kit, or go on with KIT_ANY=1" >&2
+echo "kit: found $found; these proofs were tried with $tried alone. Use that kit, or outside of the gate go on with KIT_ANY=1" >&2
 exit 1

@@ -2,6 +2,7 @@
 // and the hash of those after it.
 ghost use mathlib.Core.Path.{_≡_};
 ghost use mathlib.Core.Bool.{true};
+ghost use mathlib.Core.Logic.{_↔_};
 ghost use Prim.Native.Nat.{_≤_};
 
 // ---- words and numbers
@@ -137,7 +138,7 @@ pub fn read_case() -> Case {
 
 // Whether arrays that are so long have room for the case's.
 pub fn room(l: Lengths, a: usize, b: usize, work: usize, result: usize) -> bool
-    ensures { λ r. ⌜ (r ≡ true → (l .a ≤ a) × (l .b ≤ b) × (l .work ≤ work) × (l .result ≤ result)) ⌝ }
+    ensures { λ r. ⌜ (r ≡ true) ↔ ((l .a ≤ a) × (l .b ≤ b) × (l .work ≤ work) × (l .result ≤ result)) ⌝ }
 {
     if a < l.a as usize {
         return false;

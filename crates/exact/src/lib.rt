@@ -1,1 +1,1 @@
-// What holds of every call of `symmetric_eigen`. There is no code here: specs/ and proofs/ have the theorems.
+// What holds of every call of `symmetric_eigen`. There is no code here: specs/ has the theorems.

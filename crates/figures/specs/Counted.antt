@@ -1,4 +1,4 @@
--- T32: after any series of tiles each figure of the tally is the one counted from the list of the tiles that were added (`counted`), which those are (`taken-accepted`), and what each tile is answered (`answered`). Laws only.
+-- T32: after any series of tiles each figure of the tally is the one counted from the list of the tiles that were added (`counted`), which those are (`taken-accepted`), and what each tile is answered (`answered`, of the call `replied`, `refused-stays`). Laws only.
 use mathlib.Core.Path.{_≡_, refl, sym, ap, _∙_}
 use mathlib.Core.Bool.{Bool, true, false, cond}
 use mathlib.Core.Logic.{_⊎_, inl, inr, ⊎-elim}
@@ -17,6 +17,7 @@ use Rattle.figures.specs.Series.{figures, series, takenOf}
 use Rattle.figures.specs.TallyLaws.{Taken, takes}
 use Rattle.grid.specs.LoopLaws.{below-cases, both, every-all}
 use Rattle.figures.specs.declared.Tally.{Tally}
+use Rattle.figures.specs.declared.Reply.{Reply}
 
 -- ---- one tile more at the end of a list
 
@@ -340,3 +341,17 @@ answered s x = ap (λ (t : Tally). refusal t (x .answer) (x .passes)) (counted s
     go false f c g = wide (figures (accepted s)) x f
     go true f true g = free (accepted s) x (goods-short s 65536) (ltb-true (length (accepted s)) 65536 g) f
     go true f false g = full (figures (accepted s)) x f (ltb-false (length (accepted s)) 65536 g)
+
+-- the same of the call: o is what one that meets its promise came back with
+pub replied : (s : List Tile) (x : Tile) (o : Reply) → o ≡ outcome (series none s) (x .answer) (x .passes)
+    → o .refusal ≡ cond (good x) (cond (ltb (length (accepted s)) 65536) 0 36) 38
+unfolding outcome
+replied s x o p = ap (λ (r : Reply). r .refusal) p ∙ answered s x
+
+-- a refused tile leaves the tally as it was, whatever it holds
+pub refused-stays : (t : Tally) (answer passes : ℕ) (o : Reply) → o ≡ outcome t answer passes → (o .refusal ≡ 0 → ⊥) → o .tally ≡ t
+unfolding outcome
+refused-stays t answer passes o p h = ap (λ (r : Reply). r .tally) p ∙ kept (λ (z : refusal t answer passes ≡ 0). h (ap (λ (r : Reply). r .refusal) p ∙ z))
+  where
+    kept : (refusal t answer passes ≡ 0 → ⊥) → cond (eqb (refusal t answer passes) 0) (next t answer passes) t ≡ t
+    kept h = rw (ne-eqb (refusal t answer passes) 0 h)

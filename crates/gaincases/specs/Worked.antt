@@ -33,14 +33,23 @@ asked : (a : Vec) → tested fine false 2 3 a ≡ true → SvdFine 2 3 1 1 60 a 
 unfolding tested
 asked a e taken = test-right (longest 2 3) (least 2 3) 60 (begun 2 3 a) (subst T (sym e) tt)
 
-keeps : (k : ℤ) → tested fine false 2 3 (gained k) ≡ true → Keeps k
+pub matrix-asked : SvdFine 2 3 1 1 60 matrix (zeros (workLength 2 3)) (zeros (decompositionLength 2 3 1 1))
+matrix-asked = asked matrix matrix-passes
+
+pub eightfold-asked : SvdFine 2 3 1 1 60 (gained (pos 3)) (zeros (workLength 2 3)) (zeros (decompositionLength 2 3 1 1))
+eightfold-asked = asked (gained (pos 3)) eightfold-passes
+
+pub small-asked : SvdFine 2 3 1 1 60 (gained (negsuc 4)) (zeros (workLength 2 3)) (zeros (decompositionLength 2 3 1 1))
+small-asked = asked (gained (negsuc 4)) small-passes
+
+keeps : (k : ℤ) → SvdFine 2 3 1 1 60 (gained k) (zeros (workLength 2 3)) (zeros (decompositionLength 2 3 1 1)) → Keeps k
 unfolding outcome gained
-keeps k e = gain-keeps-basis k 2 3 1 1 60 matrix _ _ _ _ _ _ refl refl refl refl (asked matrix matrix-passes) (asked (gained k) e)
+keeps k e = gain-keeps-basis k 2 3 1 1 60 matrix _ _ _ _ _ _ refl refl refl refl matrix-asked e
 
 -- 8 times the matrix has the same U and V^T, and 8 times the values
 pub worked-3 : Keeps (pos 3)
-worked-3 = keeps (pos 3) eightfold-passes
+worked-3 = keeps (pos 3) eightfold-asked
 
 -- and a thirty-second of it the same, and a thirty-second of the values
 pub worked-minus-5 : Keeps (negsuc 4)
-worked-minus-5 = keeps (negsuc 4) small-passes
+worked-minus-5 = keeps (negsuc 4) small-asked

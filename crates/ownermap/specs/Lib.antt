@@ -4,4 +4,5 @@ pub mod LaidLaws
 pub mod Events
 pub mod PartLaws
 pub mod Apart
+pub mod Nobody
 pub mod One

@@ -1,4 +1,4 @@
--- Calls of a start, of steps and of a finish that meet their promises: each of s, t, u, f is what one came back with. Laws only.
+-- Calls of a start, of steps and of a finish that meet their promises: each of s, t, u, f is what one came back with. Laws, and what k steps are (`Stepping`).
 use mathlib.Core.Path.{_≡_, refl, sym, ap, _∙_, subst}
 use mathlib.Core.Bool.{true, false}
 use Prim.Native.Nat.{ℕ, zero, suc}

@@ -1,4 +1,4 @@
--- The sequence theorem: every sequence of calls from an empty store answers, and fetches, as a plain map from tiles to bytes does. Laws only.
+-- The sequence theorem: every sequence of calls from an empty store answers, and fetches, as a plain map from tiles to bytes does. Laws, and the arrays after a set-up (`emptied`).
 use mathlib.Core.Path.{_≡_, refl, sym, ap, _∙_, subst}
 use mathlib.Core.Logic.{⊎-elim}
 use mathlib.Core.Bool.{Bool, true, false}

@@ -66,6 +66,10 @@ four-rows n a i c p h f k l = elim (decLt k c) [
     last : (k < c → ⊥) → (k ≡ c → ⊥) → (k ≡ c + 1 → ⊥) → (k ≡ c + 2 → ⊥) → k ≡ c + 3
     last m d d1 d2 = omega arith
 
+pub mirror-fours : (n : ℕ) (a : Vec) (i : ℕ) → i + 3 < n → Mirror n a → (j : ℕ) → j < i + 3 → Fours n a i j
+mirror-fours n a i h m j l =
+    record { first = m i j (omega arith) (omega arith); second = m (i + 1) j (omega arith) (omega arith); third = m (i + 2) j (omega arith) (omega arith); fourth = m (i + 3) j (omega arith) (omega arith) }
+
 -- ---- the product
 
 pub rows-are-product : (n : ℕ) (a v : Vec) {w : Vec} → Mirror n a → w ≡ turns (columnStep n a v) n n → w ≡ product n a v

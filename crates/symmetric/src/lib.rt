@@ -2,6 +2,7 @@
 // (`rowsum`), each number of it in its own order. Else four rows of dots go side by side (`matvec`).
 ghost use mathlib.Core.Path.{_≡_};
 ghost use mathlib.Core.Bool.{true};
+ghost use mathlib.Core.Logic.{_↔_};
 ghost use Prim.Native.Nat.{ℕ, _+_, _*_, _<_, _≤_};
 ghost use lib.ListN.{length};
 ghost use Rattle.matvec.specs.Matvec.{product};
@@ -12,12 +13,12 @@ use rowsum::sum;
 
 // ---- the mirror
 
-// Whether x and y have the same bits; a NaN has none.
+// Whether x and y are the same number: 0 and -0 are two, all NaNs are one.
 fn same(x: f64, y: f64) -> bool
-    ensures { λ r. ⌜ (r ≡ true → x ≡ y) ⌝ }
+    ensures { λ r. ⌜ (r ≡ true) ↔ (x ≡ y) ⌝ }
 {
     if x != x {
-        return false;
+        return y != y;
     }
     if y != y {
         return false;
@@ -28,7 +29,7 @@ fn same(x: f64, y: f64) -> bool
 // Whether number j of rows i to i + 3 is number i to i + 3 of row j: four at a time, since what stands below each other is far apart.
 fn four_same(n: usize, i: usize, j: usize, a: &[f64]) -> bool
     requires { ⌜ (n ≤ 256) × (i + 3 < n) × (j < n) × (length (now a) ≡ n * n) ⌝ }
-    ensures { λ r. ⌜ (r ≡ true → Fours n (now (a .entry)) i j) ⌝ }
+    ensures { λ r. ⌜ (r ≡ true) ↔ Fours n (now (a .entry)) i j ⌝ }
 {
     let p = same(entry(a, n, n, i, j), entry(a, n, n, j, i));
     let q = same(entry(a, n, n, i + 1, j), entry(a, n, n, j, i + 1));
@@ -40,7 +41,7 @@ fn four_same(n: usize, i: usize, j: usize, a: &[f64]) -> bool
 // Whether rows i to i + 3 left of the diagonal are the columns above it.
 fn rows_same(n: usize, i: usize, a: &[f64]) -> bool
     requires { ⌜ (n ≤ 256) × (i + 3 < n) × (length (now a) ≡ n * n) ⌝ }
-    ensures { λ r. ⌜ (r ≡ true → (j : ℕ) → j < i + 3 → Fours n (now (a .entry)) i j) ⌝ }
+    ensures { λ r. ⌜ (r ≡ true) ↔ ((j : ℕ) → j < i + 3 → Fours n (now (a .entry)) i j) ⌝ }
 {
     for j in 0..i + 3 {
         if !four_same(n, i, j, a) {
@@ -50,10 +51,10 @@ fn rows_same(n: usize, i: usize, a: &[f64]) -> bool
     true
 }
 
-// Whether the n by n matrix a is its own mirror, bit for bit. Below four rows the answer is no: there the dots are as good.
+// Whether the n by n matrix a has four rows or more and is its own mirror. Below four rows the dots are as good.
 pub fn mirrored(n: usize, a: &[f64]) -> bool
     requires { ⌜ (n ≤ 256) × (length (now a) ≡ n * n) ⌝ }
-    ensures { λ r. ⌜ (r ≡ true → Mirror n (now (a .entry))) ⌝ }
+    ensures { λ r. ⌜ (r ≡ true) ↔ ((4 ≤ n) × Mirror n (now (a .entry))) ⌝ }
 {
     if n < 4 {
         return false;

@@ -11,12 +11,12 @@ use Rattle.grid.specs.Loop.{every}
 use Rattle.octets.specs.Bits.{bits}
 use Rattle.text.specs.Reading.{Text, good, bad, value, numberOf, numberAt, head, groupAt, horner, wordAt, table, wordsRead, reading}
 
-abbrev bytes : String → List ℕ
+abbrev pub bytes : String → List ℕ
 bytes [] = []ᴸ
 bytes (c ∷ s) = code c ∷ᴸ bytes s
 
 -- 01's example and its answer
-abbrev input : String
+abbrev pub input : String
 input = "2 60\n4000000000000000 0000000000000000\n0000000000000000 3ff0000000000000\n"
 
 pub input-written : writing 2 60 (0x4000_0000_0000_0000 ∷ᴸ 0 ∷ᴸ 0 ∷ᴸ 0x3ff0_0000_0000_0000 ∷ᴸ []ᴸ) ≡ bytes input
@@ -27,13 +27,13 @@ pub input-read : reading (bytes input) ≡ good 2 60 (0x4000_0000_0000_0000 ∷�
 unfolding reading wordsRead head numberAt numberOf value every groupAt separator wordAt horner table
 input-read = refl
 
-abbrev one : Float
+abbrev pub one : Float
 one = ofBits binary64 0x3ff0_0000_0000_0000
 
-abbrev two : Float
+abbrev pub two : Float
 two = ofBits binary64 0x4000_0000_0000_0000
 
-abbrev zero : Float
+abbrev pub zero : Float
 zero = ofBits binary64 0
 
 pub answer-written :
@@ -47,11 +47,11 @@ unfolding badText
 bad-written = refl
 
 -- texts that are none
-abbrev none : Text → Bool
+abbrev pub none : Text → Bool
 none (good n limit ws) = false
 none bad = true
 
-abbrev allNone : List String → Bool
+abbrev pub allNone : List String → Bool
 allNone []ᴸ = true
 allNone (t ∷ᴸ ts) = none (reading (bytes t)) && allNone ts
 

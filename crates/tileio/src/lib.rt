@@ -1,39 +1,29 @@
-// The figures of the tiles that a file has a line each of.
-use figures::Tally;
+// What the program `tiles` does, on slices: a piece of its input, and its report. No contract can say what is read or written, so the
+// loop over the pieces stands in the programs; `heard-tallied` (tiletext) says what it comes to.
+ghost use mathlib.Core.Path.{_≡_};
+ghost use Prim.Native.Nat.{_≤_};
+ghost use lib.ListN.{length, take};
+ghost use Rattle.text.specs.Writing.{written};
+ghost use Rattle.tiletext.specs.Lines.{more};
+ghost use Rattle.tiletext.specs.Report.{reportText};
 use tiletext::Series;
 
-fn report(t: Tally, output: i32) {
-    let mut text = [0u8; 512];
-    let length = tilewrite::write(t, &mut text);
-    io::write_all(output, &text[..length]);
-}
-
-// One piece of the input more. Behind its end, or where it can't be read, the series ends.
-fn more(s: Series, input: i32) -> Series {
-    let mut piece = io::buffer();
-    let got = io::read_full(input, &mut piece);
-    if got == 0 {
+// One piece of the input more. Where there is none, the input has ended, or can't be read: the series ends.
+pub fn more(s: Series, piece: &[u8]) -> Series
+    ensures { λ r. ⌜ r ≡ more s (now (piece .entry)) ⌝ }
+{
+    if piece.len() == 0 {
         let t = s.tally;
         return tileread::ended(t);
     }
-    tileread::read(s, &piece[..got])
+    tileread::read(s, piece)
 }
 
-// Up to the series' end. The bound is none that an input has: it says that this ends.
-fn series(input: i32) -> Series {
-    let mut s = tileread::begun();
-    for k in 0..18446744073709551615usize {
-        if s.stage > 1 {
-            return s;
-        }
-        s = more(s, input);
-    }
-    s
-}
-
-// Reads tiles up to the first line that is none or is refused, and writes the report.
-pub fn answer(input: i32, output: i32) {
-    let s = series(input);
+// Writes the report on a series to the front of out, which has room for every one, and gives its length.
+pub fn report(s: Series, out: &mut [u8; 512]) -> usize
+    ensures { λ r. ⌜ (r, now (out .exit)) ≡ written (reportText (s .tally)) (now (out .entry)) ⌝ }
+    ensures { λ r. ⌜ (r ≤ length (now (out .exit))) × (r ≡ length (take r (now (out .exit)))) ⌝ }
+{
     let t = s.tally;
-    report(t, output);
+    tilewrite::write(t, out)
 }

@@ -1,5 +1,27 @@
 // Answers the texts of data/ in turn, each under its file's name.
 use libc::STDOUT_FILENO;
+use tiletext::Series;
+
+// As in `tiles`.
+fn series(input: i32) -> Series {
+    let mut s = tileread::begun();
+    for k in 0..18446744073709551615usize {
+        if s.stage > 1 {
+            return s;
+        }
+        let mut piece = io::buffer();
+        let got = io::read_full(input, &mut piece);
+        s = tileio::more(s, &piece[..got]);
+    }
+    s
+}
+
+fn answer(input: i32) {
+    let s = series(input);
+    let mut text = [0u8; 512];
+    let length = tileio::report(s, &mut text);
+    io::write_all(STDOUT_FILENO, &text[..length]);
+}
 
 fn file(name: &[u8]) {
     io::write_all(STDOUT_FILENO, b"-- ");
@@ -10,7 +32,7 @@ fn file(name: &[u8]) {
         os::fail(name);
         return;
     }
-    tileio::answer(fd, STDOUT_FILENO);
+    answer(fd);
     libc::close(fd);
 }
 

@@ -1,9 +1,10 @@
--- The text of a series of tiles, what reading a byte of it does, and what it is that a text has just these tiles up to where the series ends. Definitions only.
+-- The text of a series of tiles, what reading a byte or a piece of it does, and what it is that a text has just these tiles up to where the series ends. Definitions only.
 use mathlib.Core.Path.{_≡_}
 use mathlib.Core.Bool.{Bool, true, false, cond, _&&_}
 use mathlib.Core.List.{List, [], _∷_, _++_}
-use Prim.Native.Nat.{ℕ, _+_, _-_, _*_}
+use Prim.Native.Nat.{ℕ, _+_, _-_, _*_, _<_}
 use lib.Dec.{ltb, leb, eqb}
+use lib.ListN.{length}
 use Rattle.text.specs.Writing.{number}
 use Rattle.figures.specs.Figures.{Tile}
 use Rattle.figures.specs.Tallies.{refusal, outcome, none}
@@ -73,6 +74,27 @@ run s (b ∷ t) = run (step s b) t
 -- what a whole text leaves
 abbrev pub tallied : List ℕ → Tally
 tallied t = run (fresh none) t .tally
+
+-- ---- piece by piece
+
+-- a piece of a text more; where there is none, the text has ended
+unfoldable pub more : Series → List ℕ → Series
+more s p = cond (eqb (length p) 0) (ended (s .tally)) (run s p)
+
+-- pieces one after the other, none behind the series' end
+unfoldable pub heard : Series → List (List ℕ) → Series
+heard s [] = s
+heard s (p ∷ ps) = cond (ltb 1 (s .stage)) s (heard (more s p) ps)
+
+-- a text that came in pieces
+unfoldable pub whole : List (List ℕ) → List ℕ
+whole [] = []
+whole (p ∷ ps) = p ++ whole ps
+
+-- none of the pieces is empty
+unfoldable pub Full : List (List ℕ) → Type 0
+Full [] = Unit {0}
+Full (p ∷ ps) = (0 < length p) × Full ps
 
 -- ---- which tiles a text has
 

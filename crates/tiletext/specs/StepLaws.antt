@@ -17,7 +17,7 @@ use Rattle.figures.specs.Tallies.{refusal, next, outcome, none}
 use Rattle.figures.specs.TallyLaws.{taken}
 use Rattle.figures.specs.declared.Tally.{Tally}
 use Rattle.tiletext.specs.declared.Series.{Series}
-use Rattle.tiletext.specs.Lines.{line, state, fresh, ended, endOf, mostOf, grown, digit, tile, closed, step, run}
+use Rattle.tiletext.specs.Lines.{line, state, fresh, ended, endOf, mostOf, grown, digit, tile, closed, step, run, tallied, more, heard, whole, Full}
 use Rattle.tiletext.specs.DecimalLaws.{dec, number-is, dec-low, dec-more}
 
 -- ---- a run of bytes
@@ -37,6 +37,36 @@ module _ {A : Type 0} (P : A → Type 0) where
   either : (b : Bool) (x y : A) → P x → P y → P (cond b x y)
   either true x y p q = p
   either false x y p q = q
+
+-- ---- pieces, as the program `tiles` reads them
+
+behind-end : (s : Series) (u : List ℕ) → ltb 1 (s .stage) ≡ true → run s u ≡ s
+unfolding run step
+behind-end s [] h = refl
+behind-end s (b ∷ u) h = rw h (behind-end s u h)
+
+more-full : (s : Series) (p : List ℕ) → 0 < length p → more s p ≡ run s p
+unfolding more
+more-full s p h = rw (ne-eqb (length p) 0 (λ (e : length p ≡ 0). omega arith))
+
+heard-run : (ps : List (List ℕ)) (s : Series) → Full ps → heard s (ps ++ ([] ∷ [])) .tally ≡ run s (whole ps) .tally
+unfolding heard more whole Full run
+heard-run [] s h = go (ltb 1 (s .stage))
+  where
+    go : (b : Bool) → cond b s (ended (s .tally)) .tally ≡ s .tally
+    go true = refl
+    go false = refl
+heard-run (p ∷ ps) s h = go (ltb 1 (s .stage)) refl (λ x. heard-run ps x (h .1))
+  where
+    go : (b : Bool) → ltb 1 (s .stage) ≡ b → ((x : Series) → heard x (ps ++ ([] ∷ [])) .tally ≡ run x (whole ps) .tally)
+        → cond b s (heard (more s p) (ps ++ ([] ∷ []))) .tally ≡ run s (p ++ whole ps) .tally
+    go true e again = ap (λ (x : Series). x .tally) (sym (behind-end s (p ++ whole ps) e))
+    go false e again =
+        ap (λ (x : Series). heard x (ps ++ ([] ∷ [])) .tally) (more-full s p (h .0)) ∙ again (run s p) ∙ ap (λ (x : Series). x .tally) (sym (run-append s p (whole ps)))
+
+-- a text that comes in pieces, and then nothing, leaves the tally of the whole text, wherever it is cut and where the reading stops
+pub heard-tallied : (ps : List (List ℕ)) → Full ps → heard (fresh none) (ps ++ ([] ∷ [])) .tally ≡ tallied (whole ps)
+heard-tallied ps h = heard-run ps (fresh none) h
 
 -- ---- one byte
 

@@ -23,7 +23,8 @@ fresh = record { l = 0; m = 0; f = zero64; tst1 = zero64; passes = 0; count = 0;
 abbrev pub stopping : Run → ℕ → Run
 stopping r stop = record { l = r .l; m = r .m; f = r .f; tst1 = r .tst1; passes = r .passes; count = r .count; stop = stop; index = 0 }
 
--- the m to split on: the first from l at which e counts as zero, and n - 1 at the latest
+-- the m to split on: the first from l at which e counts as zero, and n - 1 at the latest. The Rust looks on up to n and never comes there: at n - 1 its test
+-- holds (`test-at-last`, told/specs/Marks.antt), since e[n - 1] is 0 and tst1 is no NaN; so it finds the same m (`split-is`, told/specs/Last.antt)
 unfoldable pub split : ℕ → ℕ → Float → Vec → ℕ
 split n l tst1 e = first (tiny e tst1) l (n - 1)
 

@@ -14,28 +14,28 @@ returns : tie.Need-returns
 returns c = search needs
 
 slice-relend-prefix-case : tie.Need-slice-relend-prefix-case
-slice-relend-prefix-case c = c .before .room .ensures (not-false (c .before .room .result) (c .if1 .left)) .0
+slice-relend-prefix-case c = c .before .room .ensures .0 (not-false (c .before .room .result) (c .if1 .left)) .0
 
 slice-aggregate-case : tie.Need-slice-aggregate-case
-slice-aggregate-case c = sym (length-take-le _ _ (c .before .before .room .ensures (not-false (c .before .before .room .result) (c .before .if1 .left)) .0))
+slice-aggregate-case c = sym (length-take-le _ _ (c .before .before .room .ensures .0 (not-false (c .before .before .room .result) (c .before .if1 .left)) .0))
 
 slice-relend-prefix-case-2 : tie.Need-slice-relend-prefix-case-2
-slice-relend-prefix-case-2 c = c .before .before .room .ensures (not-false (c .before .before .room .result) (c .before .if1 .left)) .1
+slice-relend-prefix-case-2 c = c .before .before .room .ensures .0 (not-false (c .before .before .room .result) (c .before .if1 .left)) .1
 
 slice-aggregate-case-2 : tie.Need-slice-aggregate-case-2
-slice-aggregate-case-2 c = sym (length-take-le _ _ (c .before .before .before .room .ensures (not-false (c .before .before .before .room .result) (c .before .before .if1 .left)) .1))
+slice-aggregate-case-2 c = sym (length-take-le _ _ (c .before .before .before .room .ensures .0 (not-false (c .before .before .before .room .result) (c .before .before .if1 .left)) .1))
 
 slice-relend-prefix-case-3 : tie.Need-slice-relend-prefix-case-3
-slice-relend-prefix-case-3 c = c .before .before .before .room .ensures (not-false (c .before .before .before .room .result) (c .before .before .if1 .left)) .2
+slice-relend-prefix-case-3 c = c .before .before .before .room .ensures .0 (not-false (c .before .before .before .room .result) (c .before .before .if1 .left)) .2
 
 slice-aggregate-case-3 : tie.Need-slice-aggregate-case-3
-slice-aggregate-case-3 c = sym (length-take-le _ _ (c .before .before .before .before .room .ensures (not-false (c .before .before .before .before .room .result) (c .before .before .before .if1 .left)) .2))
+slice-aggregate-case-3 c = sym (length-take-le _ _ (c .before .before .before .before .room .ensures .0 (not-false (c .before .before .before .before .room .result) (c .before .before .before .if1 .left)) .2))
 
 slice-relend-prefix-case-4 : tie.Need-slice-relend-prefix-case-4
-slice-relend-prefix-case-4 c = c .before .before .before .before .room .ensures (not-false (c .before .before .before .before .room .result) (c .before .before .before .if1 .left)) .3
+slice-relend-prefix-case-4 c = c .before .before .before .before .room .ensures .0 (not-false (c .before .before .before .before .room .result) (c .before .before .before .if1 .left)) .3
 
 slice-aggregate-case-4 : tie.Need-slice-aggregate-case-4
-slice-aggregate-case-4 c = sym (length-take-le _ _ (c .before .before .before .before .before .room .ensures (not-false (c .before .before .before .before .before .room .result) (c .before .before .before .before .if1 .left)) .3))
+slice-aggregate-case-4 c = sym (length-take-le _ _ (c .before .before .before .before .before .room .ensures .0 (not-false (c .before .before .before .before .before .room .result) (c .before .before .before .before .if1 .left)) .3))
 
 case-requires : tie.Need-case-requires
 case-requires c κs = search needs

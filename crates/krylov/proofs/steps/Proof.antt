@@ -28,7 +28,7 @@ done-requires : tie.Need-done-requires Inv-loop μ-loop
 done-requires c κs = search needs
 
 loop-holds : tie.Need-loop-holds Inv-loop μ-loop
-loop-holds c = (omega arith, refl, refl, refl, c .before .mirrored .ensures, rw (c .done .ensures) (start _ _ _))
+loop-holds c = (omega arith, refl, refl, refl, λ e. c .before .mirrored .ensures .0 e .1, rw (c .done .ensures) (start _ _ _))
 
 step-if-on-requires : tie.Need-step-if-on-requires Inv-loop μ-loop
 step-if-on-requires c κs = (omega arith, omega arith, omega arith, c .before .before .before .before .before .before .loop .inv .4, omega arith, omega arith, omega arith, omega arith)

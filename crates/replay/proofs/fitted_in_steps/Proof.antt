@@ -14,19 +14,19 @@ returns : tie.Need-returns
 returns c = search needs
 
 slice-aggregate-agrees-in-steps : tie.Need-slice-aggregate-agrees-in-steps
-slice-aggregate-agrees-in-steps c = sym (length-take-le _ _ (c .before .before .room .ensures (not-false (c .before .before .room .result) (c .before .if1 .left)) .0))
+slice-aggregate-agrees-in-steps c = sym (length-take-le _ _ (c .before .before .room .ensures .0 (not-false (c .before .before .room .result) (c .before .if1 .left)) .0))
 
 slice-relend-prefix-agrees-in-steps : tie.Need-slice-relend-prefix-agrees-in-steps
-slice-relend-prefix-agrees-in-steps c = c .before .before .room .ensures (not-false (c .before .before .room .result) (c .before .if1 .left)) .2
+slice-relend-prefix-agrees-in-steps c = c .before .before .room .ensures .0 (not-false (c .before .before .room .result) (c .before .if1 .left)) .2
 
 slice-aggregate-agrees-in-steps-2 : tie.Need-slice-aggregate-agrees-in-steps-2
-slice-aggregate-agrees-in-steps-2 c = sym (length-take-le _ _ (c .before .before .before .room .ensures (not-false (c .before .before .before .room .result) (c .before .before .if1 .left)) .2))
+slice-aggregate-agrees-in-steps-2 c = sym (length-take-le _ _ (c .before .before .before .room .ensures .0 (not-false (c .before .before .before .room .result) (c .before .before .if1 .left)) .2))
 
 slice-relend-prefix-agrees-in-steps-2 : tie.Need-slice-relend-prefix-agrees-in-steps-2
-slice-relend-prefix-agrees-in-steps-2 c = c .before .before .before .room .ensures (not-false (c .before .before .before .room .result) (c .before .before .if1 .left)) .3
+slice-relend-prefix-agrees-in-steps-2 c = c .before .before .before .room .ensures .0 (not-false (c .before .before .before .room .result) (c .before .before .if1 .left)) .3
 
 slice-aggregate-agrees-in-steps-3 : tie.Need-slice-aggregate-agrees-in-steps-3
-slice-aggregate-agrees-in-steps-3 c = sym (length-take-le _ _ (c .before .before .before .before .room .ensures (not-false (c .before .before .before .before .room .result) (c .before .before .before .if1 .left)) .3))
+slice-aggregate-agrees-in-steps-3 c = sym (length-take-le _ _ (c .before .before .before .before .room .ensures .0 (not-false (c .before .before .before .before .room .result) (c .before .before .before .if1 .left)) .3))
 
 agrees-in-steps-requires : tie.Need-agrees-in-steps-requires
 agrees-in-steps-requires c κs = search needs

@@ -3,7 +3,8 @@
 use native.Mathlib.Omega.{arith}
 use borrow.Author.Needs.{needs}
 use mathlib.Core.Bool.{Bool, true, _&&_}
-use mathlib.Core.Path.{_≡_, sym, _∙_}
+use mathlib.Core.Path.{_≡_, refl, sym, _∙_}
+use mathlib.Core.Logic.{_↔_}
 use Prim.Native.Nat.{ℕ, _+_}
 use lib.Ieee.{Float}
 use Rattle.grid.specs.Real.{Vec}
@@ -14,12 +15,16 @@ use denote.Ref.{now}
 use Rattle.symmetric.proofs.four_same.Statement.{statement}
 use Rattle.symmetric.proofs.four_same.Tie as tie
 
--- two numbers that were read, and are the same where p says so
-told : (p : Bool) (x y u v : Float) → (p ≡ true → x ≡ y) → x ≡ u → y ≡ v → p ≡ true → u ≡ v
-told p x y u v h e g t = sym e ∙ h t ∙ g
+-- p, of two numbers that were read
+told : (p : Bool) (x y u v : Float) → (p ≡ true) ↔ (x ≡ y) → x ≡ u → y ≡ v → (p ≡ true) ↔ (u ≡ v)
+told p x y u v h e g = (λ t. sym e ∙ h .0 t ∙ g, λ t. h .1 (e ∙ t ∙ sym g))
 
-all-four : (n : ℕ) (a : Vec) (i j : ℕ) (p q r s : Bool) → (p ≡ true → entry a n i j ≡ entry a n j i) → (q ≡ true → entry a n (i + 1) j ≡ entry a n j (i + 1)) → (r ≡ true → entry a n (i + 2) j ≡ entry a n j (i + 2)) → (s ≡ true → entry a n (i + 3) j ≡ entry a n j (i + 3)) → (p && q && r && s) ≡ true → Fours n a i j
-all-four n a i j p q r s e f g h t = record { first = e (both p q (both (p && q) r (both (p && q && r) s t .0) .0) .0); second = f (both p q (both (p && q) r (both (p && q && r) s t .0) .0) .1); third = g (both (p && q) r (both (p && q && r) s t .0) .1); fourth = h (both (p && q && r) s t .1) }
+all-four : (n : ℕ) (a : Vec) (i j : ℕ) (p q r s : Bool) → (p ≡ true) ↔ (entry a n i j ≡ entry a n j i) → (q ≡ true) ↔ (entry a n (i + 1) j ≡ entry a n j (i + 1)) → (r ≡ true) ↔ (entry a n (i + 2) j ≡ entry a n j (i + 2)) → (s ≡ true) ↔ (entry a n (i + 3) j ≡ entry a n j (i + 3)) → ((p && q && r && s) ≡ true) ↔ Fours n a i j
+all-four n a i j p q r s e f g h = (
+  λ t.
+      record { first = e .0 (both p q (both (p && q) r (both (p && q && r) s t .0) .0) .0); second = f .0 (both p q (both (p && q) r (both (p && q && r) s t .0) .0) .1); third = g .0 (both (p && q) r (both (p && q && r) s t .0) .1); fourth = h .0 (both (p && q && r) s t .1) },
+  λ x. rw (e .1 (x .first), f .1 (x .second), g .1 (x .third), h .1 (x .fourth)),
+)
 
 entry-requires : tie.Need-entry-requires
 entry-requires c κs = search needs

@@ -1,12 +1,12 @@
 -- Generated from the answers file beside it by tools/prove/prove.py: edit that.
 -- `symmetric::rows_same` meets its contract.
-use mathlib.Core.Path.{sym}
+use mathlib.Core.Path.{_∙_, refl, sym}
 use Prim.Native.Nat.{ℕ, _+_, _-_, _<_, _≤_}
 use native.Mathlib.Omega.{arith}
 use borrow.Author.Needs.{needs}
 use mathlib.Core.Bool.{true, true≢false}
 use Rattle.symmetric.specs.Symmetry.{Fours, one-further}
-use borrow.Author.Tests.{not-false}
+use borrow.Author.Tests.{not-true, not-false}
 use denote.Ref.{now}
 use Rattle.symmetric.proofs.rows_same.Statement.{statement}
 use Rattle.symmetric.proofs.rows_same.Tie as tie
@@ -27,7 +27,7 @@ four-same-requires : tie.Need-four-same-requires Inv-loop μ-loop
 four-same-requires c κs = search needs
 
 returns : tie.Need-returns Inv-loop μ-loop
-returns c = λ e. absurd (true≢false (sym e))
+returns c = (λ e. absurd (true≢false (sym e)), λ f. sym (not-true (c .before .four-same .result) (c .if1 .taken)) ∙ c .before .four-same .ensures .1 (f (c .before .before .before .loop .j) (omega arith)))
 
 add-j : tie.Need-add-j Inv-loop μ-loop
 add-j c = omega arith
@@ -36,10 +36,10 @@ loop-less : tie.Need-loop-less Inv-loop μ-loop
 loop-less c = omega arith
 
 loop-again : tie.Need-loop-again Inv-loop μ-loop
-loop-again c = (omega arith, one-further (Fours (c .before .before .before .before .before .args .n) (now (c .before .before .before .before .before .args .a)) (c .before .before .before .before .before .args .i)) (c .before .before .before .loop .j) (c .before .before .before .loop .inv .1) (c .before .four-same .ensures (not-false (c .before .four-same .result) (c .if1 .left))))
+loop-again c = (omega arith, one-further (Fours (c .before .before .before .before .before .args .n) (now (c .before .before .before .before .before .args .a)) (c .before .before .before .before .before .args .i)) (c .before .before .before .loop .j) (c .before .before .before .loop .inv .1) (c .before .four-same .ensures .0 (not-false (c .before .four-same .result) (c .if1 .left))))
 
 returns-2 : tie.Need-returns-2 Inv-loop μ-loop
-returns-2 c = λ e k l. c .before .loop .inv .1 k (omega (arith, l))
+returns-2 c = (λ e k l. c .before .loop .inv .1 k (omega (arith, l)), λ f. refl)
 
 pub rows-same-spec : {M : Type 1} → statement M
 rows-same-spec =

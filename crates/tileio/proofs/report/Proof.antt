@@ -2,36 +2,16 @@
 -- `tileio::report` meets its contract.
 use native.Mathlib.Omega.{arith}
 use borrow.Author.Needs.{needs}
-use lib.ListN.{replicate}
+use denote.Ref.{now}
 use Rattle.tiletext.specs.ReportLaws.{report-fits}
 use Rattle.tileio.proofs.report.Statement.{statement}
 use Rattle.tileio.proofs.report.Tie as tie
 
-slice-aggregate-write : tie.Need-slice-aggregate-write
-slice-aggregate-write c = search needs
-
 write-requires : tie.Need-write-requires
 write-requires c κs = search needs
 
-array-share-prefix-text : tie.Need-array-share-prefix-text
-array-share-prefix-text c = report-fits (c .before .before .before .args .t) (replicate 512 0) (c .before .write .last .1 .0) (c .before .write .result) (omega arith) (c .before .write .ensures) .0
-
-slice-aggregate-write-all : tie.Need-slice-aggregate-write-all
-slice-aggregate-write-all c = report-fits (c .before .before .before .before .args .t) (replicate 512 0) (c .before .before .write .last .1 .0) (c .before .before .write .result) (omega arith) (c .before .before .write .ensures) .1
-
-write-all-requires : tie.Need-write-all-requires
-write-all-requires c κs = search needs
-
 returns : tie.Need-returns
-returns c = search needs
+returns c = (c .write .ensures, report-fits (c .before .before .before .args .s .tally) (now (c .before .before .before .args .out)) (c .write .last .1 .0) (c .write .result) (omega arith) (c .write .ensures))
 
 pub report-spec : {M : Type 1} → statement M
-report-spec =
-    tie.close
-    (tie.spec
-    slice-aggregate-write
-    write-requires
-    array-share-prefix-text
-    slice-aggregate-write-all
-    write-all-requires
-    returns)
+report-spec = tie.close (tie.spec write-requires returns)

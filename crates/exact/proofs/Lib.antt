@@ -1,2 +1,0 @@
--- The theorems about `symmetric_eigen`.
-mod Theorems

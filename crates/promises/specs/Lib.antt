@@ -1,0 +1,20 @@
+-- Every theorem that docs/PROMISES.md names with a T, in full, one file to a call or a subject. `Nearness` and `NearnessLaws` are what T1 says over all doubles, and its proof.
+pub mod Nearness
+pub mod NearnessLaws
+pub mod Root
+pub mod Hypot
+pub mod Eigen
+pub mod Svd
+pub mod Solve
+pub mod Qr
+pub mod Covariance
+pub mod Blocks
+pub mod Store
+pub mod Owners
+pub mod Steps
+pub mod Tally
+pub mod Tiles
+pub mod Text
+pub mod Gain
+pub mod Lanczos
+pub mod Worked

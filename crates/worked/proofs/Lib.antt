@@ -1,2 +1,0 @@
--- The worked table.
-mod Worked
