@@ -24,7 +24,7 @@ all: archive
 include tools/c.mk
 include tools/install.mk
 include tools/believe.mk
-include tools/rooms.mk
+include tools/wings.mk
 include tools/pencil.mk
 include oracle/oracle.mk
 

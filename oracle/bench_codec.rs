@@ -92,7 +92,7 @@ impl Ours {
     }
 }
 
-/// The result's cells as 01 lays them out.
+/// The result's cells as the scope lays them out.
 fn document(n: usize, samples: &[i16], matrix: &mut [f64], out: &mut [f64]) -> Vec<f64> {
     plain(n, samples, matrix);
     let result = platform::eigen_cells(n, matrix);

@@ -34,13 +34,13 @@ told() { tail -n 1 "$2" | grep "$1" | sed 's/.*, //' | grep . || echo 'no count'
 left=0
 cp src/entries.rs src/block.rs src/store.rs src/tally.rs src/hypot.rs src/lanczos.rs src/patched.rs src/steps.rs $out/
 build
-for list in ../crates/replay/stdin ../tests/vectors/lanczos.list; do
+for list in ../crates/test_replay/stdin ../tests/vectors/lanczos.list; do
     listed || { echo "the patched functions as they are: $list differs; $(tail -n 1 $out/said)"; left=1; }
 done
 tested || { echo "the patched functions as they are: the C tests fail; $(tail -n 1 $out/tests)"; left=1; }
 while IFS='	' read -r name edit; do
     cp src/entries.rs src/block.rs src/store.rs src/tally.rs src/hypot.rs src/lanczos.rs src/patched.rs src/steps.rs $out/
-    text=patched.rs list=../crates/replay/stdin
+    text=patched.rs list=../crates/test_replay/stdin
     case $name in lanczos*) list=../tests/vectors/lanczos.list ;; esac
     case $name in hypot*) text=hypot.rs ;; block*) text=block.rs ;; store*) text=store.rs ;; step*) text=steps.rs ;; tally*) text=tally.rs ;; lanczos*) text=lanczos.rs ;; esac
     sed "$edit" src/$text >$out/$text

@@ -44,10 +44,10 @@ oracle-check: $(ORACLE)/oracle
 	oracle/verbatim.sh
 	$(ORACLE)/oracle check $(SEED) $(CASES)
 	$(ORACLE)/oracle check $(SEED) 2000 40
-	$(ORACLE)/oracle list | cmp - crates/replay/stdin
-	$(ORACLE)/oracle agreed | cmp - crates/replay/stdout
-	$(ORACLE)/oracle blocks | cmp - crates/blocks/stdin
-	$(ORACLE)/oracle blocks-wanted | cmp - crates/blocks/stdout
+	$(ORACLE)/oracle list | cmp - crates/test_replay/stdin
+	$(ORACLE)/oracle agreed | cmp - crates/test_replay/stdout
+	$(ORACLE)/oracle blocks | cmp - crates/test_blocks/stdin
+	$(ORACLE)/oracle blocks-wanted | cmp - crates/test_blocks/stdout
 	$(ORACLE)/oracle lanczos-check $(SEED) $(CASES)
 	$(ORACLE)/oracle lanczos-check $(SEED) 2000 40
 	$(ORACLE)/oracle lanczos | cmp - tests/vectors/lanczos.list
@@ -62,11 +62,11 @@ findings: $(ORACLE)/oracle
 
 # The committed lists, and what their replays write, anew.
 cases: $(ORACLE)/oracle
-	mkdir -p crates/replay
-	$(ORACLE)/oracle list >crates/replay/stdin
-	$(ORACLE)/oracle agreed >crates/replay/stdout
-	$(ORACLE)/oracle blocks >crates/blocks/stdin
-	$(ORACLE)/oracle blocks-wanted >crates/blocks/stdout
+	mkdir -p crates/test_replay
+	$(ORACLE)/oracle list >crates/test_replay/stdin
+	$(ORACLE)/oracle agreed >crates/test_replay/stdout
+	$(ORACLE)/oracle blocks >crates/test_blocks/stdin
+	$(ORACLE)/oracle blocks-wanted >crates/test_blocks/stdout
 	$(ORACLE)/oracle lanczos >tests/vectors/lanczos.list
 
 # The patched functions behind the C entries, for trying a test or a driver: one object, no other name visible.
@@ -90,15 +90,15 @@ compare: $(ORACLE)/oracle build/tests/runner compare-hypot
 	$(ORACLE)/oracle lanczos | $(RUN_RUNNER)
 	$(ORACLE)/oracle lanczos-fresh $(SEED) $(CASES) $(LARGEST) | $(RUN_RUNNER)
 
-# The archive has no entry for hypot, so the pairs go through the program `vectors`, which reads no more than some thousand lines at a time.
+# The archive has no entry for hypot, so the pairs go through the program `test_vectors`, which reads no more than some thousand lines at a time.
 # Said with them: of how many the platform's hypot gives other bits.
 PAIRS ?= 2000000
 
-target/bin/vectors: $(CRATE_FILES)
+target/bin/test_vectors: $(CRATE_FILES)
 	$(RT) check vectors
 
-compare-hypot: $(ORACLE)/oracle target/bin/vectors
-	$(ORACLE)/oracle hypots $(SEED) $(PAIRS) | split -l 1900 --filter='$(RUN) target/bin/vectors' >$(ORACLE)/hypots
+compare-hypot: $(ORACLE)/oracle target/bin/test_vectors
+	$(ORACLE)/oracle hypots $(SEED) $(PAIRS) | split -l 1900 --filter='$(RUN) target/bin/test_vectors' >$(ORACLE)/hypots
 	$(ORACLE)/oracle hypots-wanted $(SEED) $(PAIRS) | cmp - $(ORACLE)/hypots
 	@echo "hypot, edition 2: $$(wc -l <$(ORACLE)/hypots) pairs, none differs"
 	$(ORACLE)/oracle hypots-platform $(SEED) $(PAIRS)
@@ -196,7 +196,7 @@ bench-lanczos: $(ORACLE)/bench
 
 # The root as it is compiled, held to the processor's and measured beside it and beside what stood there before, and both editions of hypot; no archive and no
 # rustc.
-$(ORACLE)/root_leaves.o: oracle/root.sh oracle/module.sh oracle/compile.sh $(foreach room,root leaves hypot2 vectors,$(wildcard crates/$(room)/src/*.rt))
+$(ORACLE)/root_leaves.o: oracle/root.sh oracle/module.sh oracle/compile.sh $(foreach crate,root leaves hypot test_vectors,$(wildcard crates/$(crate)/src/*.rt))
 	@mkdir -p $(ORACLE)
 	oracle/root.sh $@
 

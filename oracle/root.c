@@ -9,7 +9,7 @@
 
 double root_root(double x);
 double leaves_hypot(double x, double y);
-double hypot2_hypot2(double x, double y);
+double hypot_hypot2(double x, double y);
 double former_root(double x);
 double factor_root(double x);
 
@@ -126,7 +126,7 @@ static double median(void (*all)(double (*)(double)), double (*root)(double))
 
 /* Beside 1 none of the numbers is so large or small that no root is worked out. */
 static double hypot_1(double x) { return leaves_hypot(x, 1); }
-static double hypot_2(double x) { return hypot2_hypot2(x, 1); }
+static double hypot_2(double x) { return hypot_hypot2(x, 1); }
 
 static void time_of(const char *what, double (*root)(double)) { printf("| %s | %.1f | %.1f |\n", what, median(waiting, root), median(apart, root)); }
 

@@ -302,7 +302,7 @@ static void wrong_lengths(void)
     goes_on(q, &second);
 }
 
-/* Which records of a run still going are in range: 01's words once more, for n = 4. */
+/* Which records of a run still going are in range: the scope's words once more, for n = 4. */
 static int in_range(struct crewelmarsh_eigen_run q)
 {
     return q.limit >= 1 && q.limit <= 60 && (q.edition == 1 || q.edition == 2) && q.l <= 4 && q.m < 4 && q.passes < q.limit &&

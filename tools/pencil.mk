@@ -1,4 +1,4 @@
-# make pencil-check   proofs/Pencil.antt of the room `root` claims the figures of docs/ROOT.md, and crates/vectors has both roots
+# make pencil-check   proofs/Pencil.antt of the crate `root` claims the figures of docs/ROOT.md, and crates/test_vectors has both roots
 .PHONY: pencil-check
 
 pencil-check:

@@ -1,4 +1,4 @@
-//! The transform block of 01: a reader, a writer and a lookup of its own, from the rule's words alone. Nothing here is document 000's.
+//! The transform block of the scope: a reader, a writer and a lookup of its own, from the rule's words alone. Nothing here is document 000's.
 
 use std::ops::Range;
 

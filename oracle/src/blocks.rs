@@ -1,4 +1,4 @@
-//! The stored cases of `crates/blocks`: blocks, cut and changed ones, lookups and writes, with what `block` says of them. Numbers are big-endian;
+//! The stored cases of `crates/test_blocks`: blocks, cut and changed ones, lookups and writes, with what `block` says of them. Numbers are big-endian;
 //! a case's own are u32, an answer's u64.
 
 use crate::block::{self, Part};

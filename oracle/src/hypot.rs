@@ -1,4 +1,4 @@
-//! hypot by its two editions: 01's, a fixed sequence of rounded steps, and the correctly rounded one, by whole numbers of
+//! hypot by its two editions: the scope's, a fixed sequence of rounded steps, and the correctly rounded one, by whole numbers of
 //! any length.
 
 use std::cmp::Ordering;

@@ -1,4 +1,4 @@
-//! Document 000's `top_eigenpairs_lanczos` with the patches of request 12 inside 01's arrays and refusals: a start vector, sums from index 0
+//! Document 000's `top_eigenpairs_lanczos` with the patches of request 12 inside the scope's arrays and refusals: a start vector, sums from index 0
 //! at +0.0, what is not finite refused, the inner call with a limit and an edition.
 
 use crate::patched::{Answer, LARGEST, MOST, first_bad, first_wrong, mark, symmetric_eigen, told};

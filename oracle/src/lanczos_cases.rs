@@ -215,7 +215,7 @@ pub fn fresh(out: &mut impl Write, seed: u64, cases: usize, largest: u64) -> io:
     out.write_all(&0u64.to_le_bytes())
 }
 
-/// Where `lanczos` answers 0, document 000's own text gives the same bits; arrays after a refusal are as 01 says.
+/// Where `lanczos` answers 0, document 000's own text gives the same bits; arrays after a refusal are as the scope says.
 pub fn check(seed: u64, cases: usize, largest: u64) -> bool {
     let mut counts = std::collections::BTreeMap::new();
     let (mut wrong, mut compared, mut early) = (0, 0, 0);

@@ -1,4 +1,4 @@
-//! Document 000 as it is (`plain`), document 000 with 01's patches (`patched`), and cases for comparing with them.
+//! Document 000 as it is (`plain`), document 000 with the scope's patches (`patched`), and cases for comparing with them.
 
 pub mod block;
 pub mod blocks;

@@ -1,5 +1,5 @@
 //! Pairs of numbers for hypot of edition 2, by their bits: a line `x+y`, 16 hexadecimal digits each, and the line wanted, as the program
-//! `vectors` reads and writes them.
+//! `test_vectors` reads and writes them.
 
 use crate::cases::Random;
 use crate::hypot::hypot02;

@@ -1,4 +1,4 @@
-//! Document 000 with 01's three patches (hypot, of either edition, limits, marks) inside 01's arrays and refusals. Storage and shape of
+//! Document 000 with the scope's three patches (hypot, of either edition, limits, marks) inside the scope's arrays and refusals. Storage and shape of
 //! the routines are document 000's: row by row, one routine each.
 
 use crate::hypot::by_edition;

@@ -26,13 +26,13 @@ macro_rules! calls {
             (0..a.len()).map(|i| a[i]).collect()
         }
 
-        /// `symmetric_eigen`, its answer laid out as 01's result array.
+        /// `symmetric_eigen`, its answer laid out as the scope's result array.
         pub fn eigen_cells(n: usize, a: &[f64]) -> Vec<f64> {
             let done = symmetric_eigen(&matrix(n, n, a));
             [values(&done.eigenvalues), cells(&done.eigenvectors)].concat()
         }
 
-        /// `svd`, its answer laid out as 01's result array.
+        /// `svd`, its answer laid out as the scope's result array.
         pub fn svd_cells(m: usize, n: usize, u: bool, vt: bool, a: &[f64]) -> Vec<f64> {
             let done = svd(&matrix(m, n, a), u, vt);
             let part = |factor: Option<Array2<f64>>| factor.map_or(Vec::new(), |f| cells(&f));
@@ -48,12 +48,12 @@ macro_rules! calls {
             }
         }
 
-        /// `Svd::solve` of a decomposition laid out as 01's.
+        /// `Svd::solve` of a decomposition laid out as the scope's.
         pub fn solve_cells(m: usize, n: usize, tol: f64, a: &[f64], b: &[f64]) -> Vec<f64> {
             values(&decomposition(m, n, a).solve(&Array1::from_vec(b.to_vec()), tol).ok().unwrap())
         }
 
-        /// `Svd::pseudo_inverse` of a decomposition laid out as 01's.
+        /// `Svd::pseudo_inverse` of a decomposition laid out as the scope's.
         pub fn pseudo_inverse_cells(m: usize, n: usize, tol: f64, a: &[f64]) -> Vec<f64> {
             cells(&decomposition(m, n, a).pseudo_inverse(tol).ok().unwrap())
         }

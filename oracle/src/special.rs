@@ -1,5 +1,5 @@
-//! The cases of the committed list that are chosen by hand: 01's worked numbers, every refusal and pairs of them in
-//! 01's order, both classes of a number that goes bad, the findings' inputs, large sizes.
+//! The cases of the committed list that are chosen by hand: the scope's worked numbers, every refusal and pairs of them in
+//! The scope's order, both classes of a number that goes bad, the findings' inputs, large sizes.
 
 use crate::cases::*;
 
@@ -43,7 +43,7 @@ fn large(mut case: Case, kind: u64, seed: u64, scale: f64, len: usize, right: us
 
 const SWAPPED: [f64; 10] = [4.0, 2.0, 0.0, 1.0, 1.0, 0.0, 0.0, 1.0, 1.0, 0.0];
 
-/// 01's worked numbers that are calls.
+/// The scope's worked numbers that are calls.
 pub fn worked() -> Vec<Case> {
     let big = two(1023);
     vec![
@@ -205,7 +205,7 @@ pub fn marks() -> Vec<Case> {
     ]
 }
 
-/// Every refusal, and pairs of refusals, of which the first in 01's order is given.
+/// Every refusal, and pairs of refusals, of which the first in the scope's order is given.
 pub fn refusals() -> Vec<Case> {
     let mut out = Vec::new();
     let bad = [NAN, 1.0, INF, -INF];

@@ -1,4 +1,4 @@
-//! The eigen run one pass at a time, by 01's words: a start, steps and a finish over the patched functions. Between calls e stands in work, d at
+//! The eigen run one pass at a time, by the scope's words: a start, steps and a finish over the patched functions. Between calls e stands in work, d at
 //! the front of the result and v, column by column, behind it.
 
 use crate::patched::{Answer, LARGEST, MOST, first_bad, first_wrong, mark, move_up, pass, sort, symmetric_eigen, told, tred2};

@@ -1,4 +1,4 @@
-//! The store of two owners by 01's words: each owner's map is built anew from the lent arrays at each call, and laid out again behind it. Nothing of it
+//! The store of two owners by the scope's words: each owner's map is built anew from the lent arrays at each call, and laid out again behind it. Nothing of it
 //! is document 000's.
 
 pub const ENTRIES: usize = 32;

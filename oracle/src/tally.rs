@@ -1,4 +1,4 @@
-//! The tally by 01's words: the figures are looked through as one list of numbers with their limits. Nothing of it is document 000's.
+//! The tally by the scope's words: the figures are looked through as one list of numbers with their limits. Nothing of it is document 000's.
 
 #[repr(C)]
 pub struct Tally {

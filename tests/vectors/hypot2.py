@@ -1,5 +1,5 @@
 #!/usr/bin/env python3
-"""The vectors of hypot, correctly rounded, by Python's whole numbers alone: the lines with a plus of crates/vectors/stdin, and what must be written for
+"""The vectors of hypot, correctly rounded, by Python's whole numbers alone: the lines with a plus of crates/test_vectors/stdin, and what must be written for
 them. Run at the repository's root, after make.rs: the lines that it wrote stay, and these are put behind them.
 
 The nearest double is found by a search over the patterns, with no root. Nothing here comes from the project's own code."""
@@ -124,13 +124,13 @@ for _ in range(90):
 for _ in range(40):
     add('any numbers', random.randrange(INFINITY), random.randrange(INFINITY))
 
-given = [line for line in open('crates/vectors/stdin') if '+' not in line]
-wanted = open('crates/vectors/stdout').readlines()[:len(given)]
+given = [line for line in open('crates/test_vectors/stdin') if '+' not in line]
+wanted = open('crates/test_vectors/stdout').readlines()[:len(given)]
 for name, pairs in groups.items():
     print(f'{name}: {len(pairs)}')
     given += ['%016x+%016x\n' % pair for pair in pairs]
     wanted += [hypot(*pair) + '\n' for pair in pairs]
 print(sum(map(len, groups.values())), 'vectors,', sum(map(len, given)), 'bytes in all')
 assert sum(map(len, given)) <= ROOM, 'more than the program reads'
-open('crates/vectors/stdin', 'w').writelines(given)
-open('crates/vectors/stdout', 'w').writelines(wanted)
+open('crates/test_vectors/stdin', 'w').writelines(given)
+open('crates/test_vectors/stdout', 'w').writelines(wanted)

@@ -1,4 +1,4 @@
-// Writes the vectors of `root` and `hypot` that the program `vectors` is held to: crates/vectors/stdin and crates/vectors/stdout.
+// Writes the vectors of `root` and `hypot` that the program `test_vectors` is held to: crates/test_vectors/stdin and crates/test_vectors/stdout.
 // The README beside this file says what is in them. Nothing here comes from the project's own code.
 
 use std::collections::HashSet;
@@ -235,6 +235,6 @@ fn main() {
     }
     println!("{roots} roots, {hypots} hypots, {} bytes", given.len());
     assert!(given.len() <= 65536, "more than the program reads");
-    std::fs::write("crates/vectors/stdin", given).unwrap();
-    std::fs::write("crates/vectors/stdout", wanted).unwrap();
+    std::fs::write("crates/test_vectors/stdin", given).unwrap();
+    std::fs::write("crates/test_vectors/stdout", wanted).unwrap();
 }

@@ -1,5 +1,5 @@
 #!/usr/bin/env python3
-"""The stored runs of the tally: crates/tiles/stdin of 65,537 lines, the texts in crates/tileruns/data, and what must be written for them. Run at the
+"""The stored runs of the tally: crates/tiles/stdin of 65,537 lines, the texts in crates/test_tiles/data, and what must be written for them. Run at the
 repository's root. The figures are counted here from the tiles of a text, found by a pattern; nothing comes from the project's own code."""
 import re
 
@@ -56,7 +56,7 @@ runs = {
     'no_last_line_feed': good + b'0 1',
     'zero_byte': good + b'0 1\0\n0 1\n',
 }
-with open('crates/tileruns/stdout', 'w') as wanted:
+with open('crates/test_tiles/stdout', 'w') as wanted:
     for name, text in runs.items():
-        open('crates/tileruns/data/' + name, 'wb').write(text)
+        open('crates/test_tiles/data/' + name, 'wb').write(text)
         wanted.write('-- %s\n%s' % (name, report(text)))

@@ -5,3 +5,8 @@ pub mod Early
 pub mod OutcomeLaws
 pub mod Index
 pub mod IndexLaws
+-- The checks that several calls share.
+pub mod Checks
+pub mod ChecksLaws
+pub mod ToleranceLaws
+pub mod EditionLaws

@@ -1,4 +1,6 @@
 // What a call comes back with, and the length of an svd result.
+pub mod checks; // The checks that several calls share
+
 ghost use mathlib.Core.Path.{_≡_};
 ghost use Prim.Native.Nat.{_≤_};
 ghost use Rattle.answers.specs.Answers.{answered, done, refused, emptied, refusal7, marked, least, present, decompositionLength};

@@ -8,8 +8,8 @@ use lib.ListN.{length}
 use Rattle.grid.specs.Real.{Vec}
 use Rattle.answers.specs.Answers.{refused, passed}
 use Rattle.answers.specs.declared.Answer.{Answer}
-use Rattle.checks.specs.Checks.{lengths}
-use Rattle.bands.specs.Bands.{computed}
+use Rattle.answers.specs.Checks.{lengths}
+use Rattle.covariance.specs.MatrixEntries.{computed}
 
 -- refusals 1, 25 and 6
 unfoldable pub covChecks : ℕ → ℕ → ℕ → ℕ → Answer

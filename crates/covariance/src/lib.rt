@@ -1,10 +1,14 @@
 // The covariances of n bands of samples, each multiplied by the square of how many samples a band has, worked out exactly in whole numbers.
+mod whole_numbers; // Whole numbers with a sign, exact in 64 bits, and the test against 2^53
+mod sample_sums; // Sums of samples and of products of samples, worked out exactly in whole numbers
+mod matrix_entries; // The entries of the covariances (`covariance`), behind the checks: each that of two bands of samples, worked out exactly in whole numbers and stored
+
 ghost use mathlib.Core.Path.{_≡_};
 ghost use Rattle.covariance.specs.Covariance.{covChecks, covariance};
+use crate::matrix_entries::compute;
 use answers::Answer;
+use answers::checks::lengths;
 use answers::refused;
-use bands::compute;
-use checks::lengths;
 use grid::LARGEST;
 
 // A band has at most so many samples.

@@ -2,25 +2,25 @@
 // a length in C; what comes back is a struct of the header, of up to four numbers, or one number. The number at a name's end is the
 // header's major version, so that a program built with a header of another one doesn't link.
 ghost use mathlib.Core.Path.{_≡_};
-ghost use Rattle.eigen.specs.Eigen.{eigen};
-ghost use Rattle.steps.specs.Steps.{started, stepped, finished};
+ghost use Rattle.eigen_symmetric_eigen.specs.SymmetricEigen.{eigen};
+ghost use Rattle.eigen_steps.specs.Steps.{started, stepped, finished};
 ghost use Rattle.lanczos.specs.Lanczos.{lanczos};
 ghost use Rattle.svd.specs.Svd.{svd};
-ghost use Rattle.row.specs.Row.{rowSpan, extentOf};
+ghost use Rattle.svd.specs.VtRow.{rowSpan, extentOf};
 ghost use Rattle.solve.specs.Solve.{solve, pseudoInverse};
-ghost use Rattle.qr.specs.Qr.{qrQ};
-ghost use Rattle.blockread.specs.Held.{shapeOf};
-ghost use Rattle.blockread.specs.Lookup.{found, copied};
-ghost use Rattle.blockentries.specs.Writing.{given, doubles, lengthOf, written};
+ghost use Rattle.qr_q.specs.QrQ.{qrQ};
+ghost use Rattle.block_read.specs.Held.{shapeOf};
+ghost use Rattle.block_read.specs.Lookup.{found, copied};
+ghost use Rattle.block_write.specs.Writing.{given, doubles, lengthOf, written};
 ghost use Rattle.covariance.specs.Covariance.{covariance};
-ghost use Rattle.ownermap.specs.Owners.{setUp2, reset, putFor, lengthFor, fetchFor, dropFor};
-ghost use Rattle.figures.specs.Tallies.{outcome};
+ghost use Rattle.store_definition.specs.Owners.{setUp2, reset, putFor, lengthFor, fetchFor, dropFor};
+ghost use Rattle.tally_definition.specs.Tallies.{outcome};
 use answers::Answer;
-use blockread::Found;
-use blockread::Shape;
-use figures::Tally;
-use row::Extent;
-use steps::EigenRun;
+use block_read::lookup::Found;
+use block_read::lookup::Shape;
+use eigen_steps::EigenRun;
+use svd::vt_row::Extent;
+use tally_definition::Tally;
 
 #[no_mangle]
 pub extern "C" fn crewelmarsh_symmetric_eigen_abi4(
@@ -33,7 +33,7 @@ pub extern "C" fn crewelmarsh_symmetric_eigen_abi4(
 ) -> Answer
     ensures { λ r. ⌜ (r, now (work .exit), now (result .exit)) ≡ eigen n limit edition (now (matrix .entry)) (now (work .entry)) (now (result .entry)) ⌝ }
 {
-    eigen::symmetric_eigen(n, limit, edition, matrix, work, result)
+    eigen_symmetric_eigen::symmetric_eigen(n, limit, edition, matrix, work, result)
 }
 
 // ---- the same one pass at a time
@@ -121,7 +121,7 @@ pub extern "C" fn crewelmarsh_vt_row_extent_abi4(
 ) -> Extent
     ensures { λ r. ⌜ r ≡ extentOf (rowSpan «result_len» m n «has_u» «has_vt» j) ⌝ }
 {
-    row::vt_row_extent(m, n, has_u, has_vt, result_len, j)
+    svd::vt_row::vt_row_extent(m, n, has_u, has_vt, result_len, j)
 }
 
 #[no_mangle]
@@ -173,7 +173,7 @@ pub extern "C" fn crewelmarsh_qr_q_abi4(
 ) -> Answer
     ensures { λ r. ⌜ (r, now (answer .exit)) ≡ qrQ m k (now (matrix .entry)) (now (answer .entry)) ⌝ }
 {
-    qr::qr_q(m, k, matrix, answer)
+    qr_q::qr_q(m, k, matrix, answer)
 }
 
 // ---- transform blocks
@@ -182,14 +182,14 @@ pub extern "C" fn crewelmarsh_qr_q_abi4(
 pub extern "C" fn crewelmarsh_block_check_abi4(block: &[u8]) -> Shape
     ensures { λ r. ⌜ r ≡ shapeOf (now (block .entry)) ⌝ }
 {
-    blockread::shape_of(block)
+    block_read::lookup::shape_of(block)
 }
 
 #[no_mangle]
 pub extern "C" fn crewelmarsh_block_find_abi4(own: &[u8], main_block: &[u8], kind: usize) -> Found
     ensures { λ r. ⌜ r ≡ found (now (own .entry)) (now («main_block» .entry)) kind ⌝ }
 {
-    blockread::locate(own, main_block, kind)
+    block_read::lookup::locate(own, main_block, kind)
 }
 
 #[no_mangle]
@@ -201,7 +201,7 @@ pub extern "C" fn crewelmarsh_block_copy_abi4<'a>(
 ) -> Answer
     ensures { λ r. ⌜ (r, now (out .exit)) ≡ copied (now (own .entry)) (now («main_block» .entry)) kind (now (out .entry)) ⌝ }
 {
-    blockread::copy(own, main_block, kind, out)
+    block_read::lookup::copy(own, main_block, kind, out)
 }
 
 #[no_mangle]
@@ -215,7 +215,7 @@ pub extern "C" fn crewelmarsh_block_length_abi4(
 ) -> usize
     ensures { λ r. ⌜ r ≡ lengthOf rows columns parts kind1 kind2 kind3 ⌝ }
 {
-    blockwrite::length_of(rows, columns, parts, kind1, kind2, kind3)
+    block_write::length_of(rows, columns, parts, kind1, kind2, kind3)
 }
 
 #[no_mangle]
@@ -233,7 +233,7 @@ pub extern "C" fn crewelmarsh_block_write_abi4(
 ) -> Answer
     ensures { λ r. ⌜ (r, now (out .exit)) ≡ written rows columns parts (given parts (doubles kind1 (now (numbers1 .entry))) (doubles kind2 (now (numbers2 .entry))) (doubles kind3 (now (numbers3 .entry)))) (now (out .entry)) ⌝ }
 {
-    blockwrite::write_doubles(
+    block_write::write_doubles(
         rows,
         columns,
         parts,
@@ -271,7 +271,7 @@ pub extern "C" fn crewelmarsh_store_setup_abi4(
 ) -> Answer
     ensures { λ r. ⌜ (r, now (list .exit)) ≡ setUp2 (now (list .entry)) (now (tiles .entry)) (now (bytes .entry)) quota0 quota1 ⌝ }
 {
-    quotas::set_up(quota0, quota1, list, tiles, bytes)
+    store::quotas::set_up(quota0, quota1, list, tiles, bytes)
 }
 
 #[no_mangle]
@@ -282,7 +282,7 @@ pub extern "C" fn crewelmarsh_store_reset_abi4(
 ) -> Answer
     ensures { λ r. ⌜ (r, now (list .exit)) ≡ reset (now (list .entry)) (now (tiles .entry)) (now (bytes .entry)) ⌝ }
 {
-    quotas::reset(list, tiles, bytes)
+    store::quotas::reset(list, tiles, bytes)
 }
 
 #[no_mangle]
@@ -296,7 +296,7 @@ pub extern "C" fn crewelmarsh_store_put_abi4(
 ) -> Answer
     ensures { λ r. ⌜ (r, now (list .exit), now (tiles .exit), now (bytes .exit)) ≡ putFor owner (now (list .entry)) (now (tiles .entry)) (now (bytes .entry)) tile (now (block .entry)) ⌝ }
 {
-    owners::put(owner, list, tiles, bytes, tile, block)
+    store::put(owner, list, tiles, bytes, tile, block)
 }
 
 #[no_mangle]
@@ -309,7 +309,7 @@ pub extern "C" fn crewelmarsh_store_length_abi4(
 ) -> Answer
     ensures { λ r. ⌜ r ≡ lengthFor owner (now (list .entry)) (now (tiles .entry)) (now (bytes .entry)) tile ⌝ }
 {
-    owners::length_of(owner, list, tiles, bytes, tile)
+    store::length_of(owner, list, tiles, bytes, tile)
 }
 
 #[no_mangle]
@@ -323,7 +323,7 @@ pub extern "C" fn crewelmarsh_store_fetch_abi4(
 ) -> Answer
     ensures { λ r. ⌜ (r, now (out .exit)) ≡ fetchFor owner (now (list .entry)) (now (tiles .entry)) (now (bytes .entry)) tile (now (out .entry)) ⌝ }
 {
-    owners::fetch(owner, list, tiles, bytes, tile, out)
+    store::fetch(owner, list, tiles, bytes, tile, out)
 }
 
 #[no_mangle]
@@ -336,7 +336,7 @@ pub extern "C" fn crewelmarsh_store_drop_abi4(
 ) -> Answer
     ensures { λ r. ⌜ (r, now (list .exit), now (tiles .exit), now (bytes .exit)) ≡ dropFor owner (now (list .entry)) (now (tiles .entry)) (now (bytes .entry)) tile ⌝ }
 {
-    owners::drop_tile(owner, list, tiles, bytes, tile)
+    store::drop_tile(owner, list, tiles, bytes, tile)
 }
 
 // ---- the tally

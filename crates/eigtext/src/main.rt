@@ -4,7 +4,7 @@ use libc::STDOUT_FILENO;
 
 fn answer(t: &[u8]) {
     let mut output = io::large_buffer();
-    let length = eigreply::reply(t, &mut output);
+    let length = text_reply::reply(t, &mut output);
     io::write_all(STDOUT_FILENO, &output[..length]);
 }
 

@@ -1,4 +1,4 @@
--- What a call of `lanczos` gives, for every input: (answer, work afterwards, answer array afterwards), in the order of 01's table. Definitions only.
+-- What a call of `lanczos` gives, for every input: (answer, work afterwards, answer array afterwards), in the order of the scope's table. Definitions only.
 use mathlib.Core.Bool.{cond}
 use mathlib.Core.List.{_++_}
 use Prim.Native.Nat.{ℕ}
@@ -7,12 +7,12 @@ use Rattle.grid.specs.Real.{Vec, zeros}
 use Rattle.leaves.specs.Scan.{firstBad}
 use Rattle.answers.specs.Answers.{passed, refusal7}
 use Rattle.answers.specs.declared.Answer.{Answer}
-use Rattle.lanczosrun.specs.Run.{none, ran}
-use Rattle.lanczoschecks.specs.Checks.{checks}
+use Rattle.lanczos.specs.Run.{none, ran}
+use Rattle.lanczos.specs.Checks.{checks}
 
 -- refusal 7 looks at all of the matrix and then at the start vector: the indices go on; 7 to 10 fill both arrays with +0.0
-unfoldable pub entered : ℕ → ℕ → ℕ → ℕ → Vec → Vec → Vec → Answer × Vec × Vec
-entered n k limit edition a b work =
+unfoldable pub lanczosEntered : ℕ → ℕ → ℕ → ℕ → Vec → Vec → Vec → Answer × Vec × Vec
+lanczosEntered n k limit edition a b work =
     let bad = refusal7 (firstBad (a ++ b)) in
     let (r, x) = cond (passed bad) (ran n k limit edition a b) (none n k bad) in
     (r, zeros (length work), x)
@@ -21,4 +21,4 @@ entered n k limit edition a b work =
 unfoldable pub lanczos : ℕ → ℕ → ℕ → ℕ → Vec → Vec → Vec → Vec → Answer × Vec × Vec
 lanczos n k limit edition a b work x =
     let check = checks n k limit edition (length a) (length b) (length work) (length x) in
-    cond (passed check) (entered n k limit edition a b work) (check, work, x)
+    cond (passed check) (lanczosEntered n k limit edition a b work) (check, work, x)

@@ -1,16 +1,17 @@
 // The leading eigenpairs of a symmetric matrix by one Lanczos run from a given start vector: the call.
+mod checks; // The checks of a call of `lanczos`: sizes, limit, edition and lengths
+mod run; // The Lanczos run from a given start vector: document 000's `top_eigenpairs_lanczos`
+
 ghost use mathlib.Core.Path.{_≡_};
 ghost use Prim.Native.Nat.{_+_, _*_};
 ghost use lib.ListN.{length};
-ghost use Rattle.lanczoschecks.specs.Fits.{Called, Fit};
-ghost use Rattle.lanczoschecks.specs.Checks.{workLength};
-ghost use Rattle.lanczos.specs.Lanczos.{entered, lanczos};
+ghost use Rattle.lanczos.specs.FitsLaws.{Called, Fit};
+ghost use Rattle.lanczos.specs.Checks.{workLength};
+ghost use Rattle.lanczos.specs.Lanczos.{lanczosEntered, lanczos};
 use answers::Answer;
 use answers::refusal7;
 use grid::fill;
-use lanczoschecks::checks;
-use lanczosrun::run;
-use scan::first_bad_of_both;
+use leaves::scan::first_bad_of_both;
 
 // The call after its checks of sizes, limit, edition and lengths.
 fn enter(
@@ -24,7 +25,7 @@ fn enter(
     x: &mut [f64],
 ) -> Answer
     requires { ⌜ Called limit edition × Fit n k × (length (now a) ≡ n * n) × (length (now b) ≡ n) × (length (now work) ≡ workLength n k) × (length (now x) ≡ k + k * n) ⌝ }
-    ensures { λ r. ⌜ (r, now (work .exit), now (x .exit)) ≡ entered n k limit edition (now (a .entry)) (now (b .entry)) (now (work .entry)) ⌝ }
+    ensures { λ r. ⌜ (r, now (work .exit), now (x .exit)) ≡ lanczosEntered n k limit edition (now (a .entry)) (now (b .entry)) (now (work .entry)) ⌝ }
 {
     fill(work);
     fill(x);
@@ -32,7 +33,7 @@ fn enter(
     if bad.answer != 0 {
         return bad;
     }
-    let r = run(n, k, limit, edition, a, b, work, x);
+    let r = crate::run::run(n, k, limit, edition, a, b, work, x);
     fill(work);
     r
 }
@@ -49,7 +50,7 @@ pub fn lanczos(
 ) -> Answer
     ensures { λ r. ⌜ (r, now (work .exit), now (answer .exit)) ≡ lanczos n k limit edition (now (matrix .entry)) (now (start .entry)) (now (work .entry)) (now (answer .entry)) ⌝ }
 {
-    let check = checks(
+    let check = crate::checks::checks(
         n,
         k,
         limit,

@@ -1,4 +1,6 @@
 // The leaves: the magnitude, the larger of two, the finite test and hypot; and what is said of a number that is not finite.
+pub mod scan; // The first number that is not finite, of a list, of a matrix, or on and below its diagonal
+
 ghost use mathlib.Core.Path.{_≡_};
 ghost use Rattle.leaves.specs.Leaf.{magnitude, larger, isFinite, hypotOf, hypot};
 ghost use Rattle.leaves.specs.Scan.{classOf, isBad};

@@ -7,7 +7,7 @@ use Rattle.grid.specs.Loop.{upto}
 use Rattle.grid.specs.Real.{Vec, zero64, at, _⊕_, _⊗_}
 use Rattle.grid.specs.Cell.{entry}
 use Rattle.grid.specs.Table.{table, part}
-use Rattle.gram.specs.Gram.{dot}
+use Rattle.gram_schmidt.specs.Gram.{dot}
 
 -- row j of rows of n numbers each
 abbrev pub rowOf : ℕ → ℕ → Vec → Vec

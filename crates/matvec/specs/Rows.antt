@@ -13,7 +13,7 @@ use Rattle.grid.specs.Loop.{upto}
 use Rattle.grid.specs.LoopLaws.{next, done, upto-keeps}
 use Rattle.grid.specs.Real.{Vec, at, zero64, _⊕_, _⊗_}
 use Rattle.grid.specs.TableLaws.{at-table, each}
-use Rattle.gram.specs.Gram.{dotStep, dot}
+use Rattle.gram_schmidt.specs.Gram.{dotStep, dot}
 use Rattle.matvec.specs.Matvec.{rowDot, product, addStep, added}
 
 abbrev pub putDot : ℕ → Vec → Vec → ℕ → Vec → Vec

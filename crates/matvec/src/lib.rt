@@ -1,11 +1,14 @@
 // A matrix by a vector, and a multiple of one vector added to another: document 000's `matvec` and `scaled_add`, each sum from index 0
 // at +0.0. Four rows go side by side, each in its own order, since a sum waits for itself.
+pub mod weighted_rows; // Rows of a matrix, each by a number, added up: sixteen columns of eight rows at a time, so that what is summed stays at hand
+pub mod symmetric_product; // A matrix by a vector, where the matrix may be symmetric: then its rows are its columns, and the product is its rows added up (`weighted_rows`), each number of it in its own order
+
 ghost use mathlib.Core.Path.{_≡_};
 ghost use Prim.Native.Nat.{_+_, _*_, _<_, _≤_};
 ghost use lib.ListN.{length};
 ghost use Rattle.matvec.specs.Matvec.{product, added, without};
 ghost use Rattle.matvec.specs.Rows.{putDot, putFour, more, addedDot};
-use gram::dot;
+use gram_schmidt::dot;
 use grid::at1;
 use grid::entry;
 use grid::put1;

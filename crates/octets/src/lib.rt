@@ -1,4 +1,6 @@
 // Doubles by their 64 bits, both ways, and whole numbers read from big-endian bytes.
+pub mod write; // Whole numbers and the bits of doubles written as big-endian bytes
+
 ghost use mathlib.Core.Path.{_≡_};
 ghost use mathlib.Core.List.{map};
 ghost use Prim.Native.Nat.{_+_, _*_, _<_, _≤_};

@@ -9,25 +9,25 @@ use lib.Ieee.{Float, binary64, fits, isNan, nan}
 use lib.ListN.{drop, length, set, take}
 use Rattle.answers.specs.Answers.{done, refused}
 use Rattle.answers.specs.declared.Answer.{Answer}
-use Rattle.block.specs.Content.{Content, Part, Words, blockOf, heads}
-use Rattle.block.specs.Reading.{answerOf, good, reading}
-use Rattle.blockcalls.proofs.Worked.{block, block-read, block-written, bytes-over, content, cut-short, inverse-found, lengths-worked, matrix-missing, refusals, writer-order}
-use Rattle.blockcalls.specs.Doubles.{bits-float, doubles-back, doubles-copied, doubles-words, float-bits, nan-read, nan-written}
-use Rattle.blockcalls.specs.FoundLaws.{copied-is, lookup-is, recorded, refused-record, spanned}
-use Rattle.blockcalls.specs.Inverse.{accepts, exactly, one-block, one-content, read-of-written, read-then-written, writes-exactly, written-block, written-of-read}
-use Rattle.blockcalls.specs.One.{check-one, copy-one, find-one, length-one, locate-one, read-one, shape-one, write-one}
-use Rattle.blockcalls.specs.PlacedLaws.{found-at, found-part}
-use Rattle.blockcalls.specs.Sound.{Doubles, IsBlock, Numbers, Recorded, Spanned, Wrote, chosen, hasPart, named, partWords}
-use Rattle.blockentries.specs.Writing.{checked, lengthOf, written}
-use Rattle.blockread.specs.Held.{blockRead, noBlock, shapeOf}
-use Rattle.blockread.specs.Lookup.{copied, found, lookup, lookupAt}
-use Rattle.blockread.specs.declared.Block.{Block}
-use Rattle.blockread.specs.declared.Found.{Found}
-use Rattle.blockread.specs.declared.Shape.{Shape}
+use Rattle.block_read.specs.Content.{Content, Part, Words, blockOf, heads}
+use Rattle.block_read.specs.Reading.{answerOf, good, reading}
+use Rattle.block_theorems.proofs.Worked.{block, block-read, block-written, bytes-over, content, cut-short, inverse-found, lengths-worked, matrix-missing, refusals, writer-order}
+use Rattle.block_theorems.specs.Doubles.{bits-float, doubles-back, doubles-copied, doubles-words, float-bits, nan-read, nan-written}
+use Rattle.block_theorems.specs.FoundLaws.{copied-is, lookup-is, recorded, refused-record, spanned}
+use Rattle.block_theorems.specs.Inverse.{accepts, exactly, one-block, one-content, read-of-written, read-then-written, writes-exactly, written-block, written-of-read}
+use Rattle.block_theorems.specs.OneOutcome.{check-one, copy-one, find-one, length-one, locate-one, read-one, shape-one, write-one}
+use Rattle.block_theorems.specs.PlacedLaws.{found-at, found-part}
+use Rattle.block_theorems.specs.Sound.{Doubles, IsBlock, Numbers, Recorded, Spanned, Wrote, chosen, hasPart, named, partWords}
+use Rattle.block_write.specs.Writing.{checked, lengthOf, written}
+use Rattle.block_read.specs.Held.{blockRead, noBlock, shapeOf}
+use Rattle.block_read.specs.Lookup.{copied, found, lookup, lookupAt}
+use Rattle.block_read.specs.declared.lookup.Block.{Block}
+use Rattle.block_read.specs.declared.lookup.Found.{Found}
+use Rattle.block_read.specs.declared.lookup.Shape.{Shape}
 use Rattle.grid.specs.Real.{Vec}
 use Rattle.octets.specs.Bits.{bits, float}
 use Rattle.octets.specs.Bytes.{Bytes, wordsBytes}
-use Rattle.block.specs.Reading as reads
+use Rattle.block_read.specs.Reading as reads
 
 -- Two outcomes of a block's check, its answer, that satisfy its promise are one.
 pub t2-check-one : (t : List ℕ) (o p : Answer) → o ≡ refused (answerOf t) 0 → p ≡ refused (answerOf t) 0 → o ≡ p

@@ -6,13 +6,13 @@ use Prim.Native.Nat.{_*_, _+_, _<_, _≤_, ℕ}
 use lib.IntN.{pos, ℤ}
 use lib.ListN.{length}
 use Rattle.answers.specs.declared.Answer.{Answer}
-use Rattle.bands.specs.Bands.{whole}
-use Rattle.calls.specs.Covariance.{covariance-exact-calls, covariance-finite-out-calls, covariance-index-zero-calls, covariance-old-contents-calls, covariance-over-first-calls, covariance-symmetric-calls, covariance-then-eigen, covariance-then-ran}
+use Rattle.covariance.specs.MatrixEntries.{whole}
+use Rattle.calls_theorems.specs.Covariance.{covariance-exact-calls, covariance-finite-out-calls, covariance-index-zero-calls, covariance-old-contents-calls, covariance-over-first-calls, covariance-symmetric-calls, covariance-then-eigen, covariance-then-ran}
 use Rattle.covariance.specs.Covariance.{covariance}
-use Rattle.entries.specs.Diagonal.{diagonal-not-negative}
-use Rattle.entries.specs.Exact.{Exactly, FirstOver, Untouched}
-use Rattle.entries.specs.One.{covariance-one}
-use Rattle.exact.specs.Exact.{Outcome, Promised, RunAnswer, Taken}
+use Rattle.covariance_theorems.specs.Diagonal.{diagonal-not-negative}
+use Rattle.covariance_theorems.specs.ExactEntries.{Exactly, FirstOver, Untouched}
+use Rattle.covariance_theorems.specs.OneOutcome.{covariance-one}
+use Rattle.eigen_theorems.specs.Outcome.{Outcome, Promised, RunAnswer, Taken}
 use Rattle.grid.specs.Cell.{entry}
 use Rattle.grid.specs.Real.{Vec}
 use Rattle.leaves.specs.Finite.{Finite}

@@ -9,25 +9,25 @@ use lib.ListN.{length}
 use Rattle.answers.specs.Answers.{answered, done, refused}
 use Rattle.answers.specs.Early.{EarlyOr12}
 use Rattle.answers.specs.Index.{AtMark, Class}
-use Rattle.calls.specs.Eigen.{columns-with-values-calls, done-exactly-calls, edition-refused-calls, eigen-old-contents-calls, finite-out-calls, index-points-calls, index-zero-calls, limit-exactly-calls, mark0-exactly-calls, mark1-exactly-calls, mark2-exactly-calls, values-ascend-calls}
-use Rattle.calls.specs.Refusals.{edition-refused-exactly-calls}
-use Rattle.checks.specs.Checks.{editionGood, fittingEdition}
-use Rattle.checks.specs.EditionLaws.{edition-12, edition-right, right-edition}
-use Rattle.eigen.specs.Eigen.{eigen}
-use Rattle.exact.specs.Document.{SymmetricEigen}
-use Rattle.exact.specs.Exact.{Broken0, Broken2, Columns, Done, Fit, Halted, Outcome, Points, Promised, Says, Taken, finishedWith}
-use Rattle.exact.specs.ExactLaws.{done-document, done-result, says-once}
-use Rattle.exact.specs.Theorems.{limit-raised-calls, lower-only-calls, marks-only-stop, marks-only-stop-calls, one-outcome}
+use Rattle.calls_theorems.specs.Eigen.{columns-with-values-calls, done-exactly-calls, edition-refused-calls, eigen-old-contents-calls, finite-out-calls, index-points-calls, index-zero-calls, limit-exactly-calls, mark0-exactly-calls, mark1-exactly-calls, mark2-exactly-calls, values-ascend-calls}
+use Rattle.calls_theorems.specs.Refusals.{edition-refused-exactly-calls}
+use Rattle.answers.specs.Checks.{editionGood, fittingEdition}
+use Rattle.answers.specs.EditionLaws.{edition-12, edition-right, right-edition}
+use Rattle.eigen_symmetric_eigen.specs.SymmetricEigen.{eigen}
+use Rattle.eigen_theorems.specs.Document.{SymmetricEigen}
+use Rattle.eigen_theorems.specs.Outcome.{Broken0, Broken2, Columns, Done, Fit, Halted, Outcome, Points, Promised, Says, Taken, finishedWith}
+use Rattle.eigen_theorems.specs.OutcomeLaws.{done-document, done-result, says-once}
+use Rattle.eigen_theorems.specs.Theorems.{limit-raised-calls, lower-only-calls, marks-only-stop, marks-only-stop-calls, one-outcome}
 use Rattle.grid.specs.Cell.{entry}
 use Rattle.grid.specs.Real.{Vec, at}
 use Rattle.leaves.specs.Leaf.{isFinite}
-use Rattle.sort.specs.Sort.{sorted}
-use Rattle.told.specs.Arranged.{Arranged}
-use Rattle.told.specs.Document.{Carried}
-use Rattle.told.specs.SortLaws.{sorted-arranged, sorted-ascends}
-use Rattle.told.specs.Told.{End, FirstIn, Turned, bad, list1, used}
-use Rattle.told.specs.ToldLaws.{limit-spent, mark1-sees, turned-within}
-use Rattle.exact.specs.Document as Doc
+use Rattle.eigen_tql2.specs.Sort.{sorted}
+use Rattle.eigen_theorems.specs.Permutation.{Arranged}
+use Rattle.eigen_theorems.specs.Tql2Document.{Carried}
+use Rattle.eigen_theorems.specs.Tql2SortLaws.{sorted-arranged, sorted-ascends}
+use Rattle.eigen_theorems.specs.Tql2Outcome.{End, FirstIn, Turned, bad, list1, used}
+use Rattle.eigen_theorems.specs.Tql2OutcomeLaws.{limit-spent, mark1-sees, turned-within}
+use Rattle.eigen_theorems.specs.Document as Doc
 
 -- Two outcomes that satisfy the promise are one.
 pub t2-one-outcome : (n limit edition : ℕ) (a work result : Vec) (x y : Outcome) → Promised n limit edition a work result x

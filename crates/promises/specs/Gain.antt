@@ -8,18 +8,18 @@ use lib.Ieee.{Float, binary64, fin, fits}
 use lib.IntN.{negsuc, pos, ℤ}
 use lib.ListN.{length}
 use Rattle.answers.specs.Answers.{decompositionLength, least}
-use Rattle.basis.specs.Fine.{SvdFine}
-use Rattle.basis.specs.Gain.{gain-keeps-basis}
-use Rattle.basis.specs.Gained.{Gained}
-use Rattle.gain.specs.Scale.{fine, scale}
-use Rattle.gain.specs.Times.{scale-times}
-use Rattle.gaincases.specs.Cases.{Fails, Keeps, fineOrOver, gained, large, matrix, outcome, small, tiny}
-use Rattle.gaincases.specs.Counter.{overflow-done, overflow-needed, subnormal-needed, zero-product-needed}
-use Rattle.gaincases.specs.Worked.{done, eightfold-asked, matrix-asked, small-asked, worked-3, worked-minus-5}
+use Rattle.svd_gain_theorems.specs.Fine.{SvdFine}
+use Rattle.svd_gain_theorems.specs.Gain.{gain-keeps-basis}
+use Rattle.svd_gain_theorems.specs.Gained.{Gained}
+use Rattle.svd_gain_theorems.specs.Scale.{fine, scale}
+use Rattle.svd_gain_theorems.specs.Times.{scale-times}
+use Rattle.svd_gain_theorems.specs.Cases.{Fails, Keeps, fineOrOver, gained, large, matrix, outcome, small, tiny}
+use Rattle.svd_gain_theorems.specs.Counter.{overflow-done, overflow-needed, subnormal-needed, zero-product-needed}
+use Rattle.svd_gain_theorems.specs.Worked.{done, eightfold-asked, matrix-asked, small-asked, worked-3, worked-minus-5}
 use Rattle.grid.specs.Real.{Vec, _⊗_, zeros}
 use Rattle.leaves.specs.Leaf.{isFinite}
-use Rattle.plain.specs.Exact.{Outcome, Promised}
-use Rattle.sorted.specs.Result.{workLength}
+use Rattle.svd_theorems.specs.Outcome.{Outcome, Promised}
+use Rattle.svd_sort_svd_descending.specs.Result.{workLength}
 
 -- Two calls of a matrix and of 2^k times it, both runs in the normal range, with arrays of the same lengths: answer, place, index and count agree, on 0 the values are multiplied by 2^k and U and V^T are the same bits, and on any other answer both results are untouched or all +0.0.
 pub t33-gain-keeps-basis : (k : ℤ) (m n wantU wantVt limit : ℕ) (matrix work result work' result' : Vec) (x y : Outcome) → length work' ≡ length work

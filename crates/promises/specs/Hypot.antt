@@ -7,14 +7,14 @@ use lib.Ieee.{Float, binary64, fin, fits, nan, ofBits}
 use lib.Ieee.Scale.{finite}
 use lib.IntN.{ℤ}
 use Rattle.grid.specs.Real.{zero64}
-use Rattle.hypot2.proofs.Choice.{pythag-1, pythag-2}
-use Rattle.hypot2.specs.Edition.{pythag}
+use Rattle.hypot.proofs.Choice.{pythag-1, pythag-2}
+use Rattle.hypot.specs.Edition.{pythag}
 use Rattle.leaves.specs.Leaf.{hypot, magnitude}
-use Rattle.nearest.proofs.Examples.{first-infinite as ex-first-infinite, gap as ex-gap, gap-more as ex-gap-more, infinity-first as ex-infinity-first, last-finite as ex-last-finite, least as ex-least, least-up as ex-least-up, no-number as ex-no-number, three-four-five as ex-three-four-five, tie-down as ex-tie-down, tie-up as ex-tie-up, to-normal as ex-to-normal, zeros as ex-zeros}
-use Rattle.nearest.proofs.Sides.{hypot2-beside-zero, hypot2-symmetric, hypot2-zero}
-use Rattle.nearest.specs.Hypot2.{hypot2}
-use Rattle.nearest.specs.Nearest.{hypot2-nearest, nearest-only}
-use Rattle.nearest.specs.NearestEven.{NearestEven}
+use Rattle.hypot.proofs.Examples.{first-infinite as ex-first-infinite, gap as ex-gap, gap-more as ex-gap-more, infinity-first as ex-infinity-first, last-finite as ex-last-finite, least as ex-least, least-up as ex-least-up, no-number as ex-no-number, three-four-five as ex-three-four-five, tie-down as ex-tie-down, tie-up as ex-tie-up, to-normal as ex-to-normal, zeros as ex-zeros}
+use Rattle.hypot.proofs.Sides.{hypot2-beside-zero, hypot2-symmetric, hypot2-zero}
+use Rattle.hypot.specs.Hypot2.{hypot2}
+use Rattle.hypot.specs.Nearest.{hypot2-nearest, nearest-only}
+use Rattle.hypot.specs.NearestEven.{NearestEven}
 
 -- Of two finite doubles the hypot of edition 2 is a double than which none without a minus sign is nearer to the exact root of x² + y², the even one of two that are as near, and +infinity from the midpoint of the largest double and 2^1024 on.
 pub t25-hypot2-nearest : (x y : Float) → T (fits binary64 x) → T (fits binary64 y) → T (finite x) → T (finite y) → NearestEven x y (hypot2 x y)

@@ -8,18 +8,18 @@ use lib.ListN.{length}
 use Rattle.answers.specs.Answers.{least, passed}
 use Rattle.answers.specs.Index.{AtMark}
 use Rattle.answers.specs.declared.Answer.{Answer}
-use Rattle.exact.specs.Exact.{RunAnswer}
+use Rattle.eigen_theorems.specs.Outcome.{RunAnswer}
 use Rattle.grid.specs.Real.{Vec, at, zero64, zeros}
 use Rattle.lanczos.specs.Lanczos.{lanczos}
-use Rattle.lanczoscalls.specs.Early.{Outcome, Promised, Untouched}
-use Rattle.lanczoscalls.specs.Limit.{lanczos-limit-calls}
-use Rattle.lanczoscalls.specs.Old.{lanczos-old-contents-calls, lanczos-untouched}
-use Rattle.lanczoscalls.specs.One.{lanczos-one}
-use Rattle.lanczoscalls.specs.Out.{lanczos-out-calls}
-use Rattle.lanczoscalls.specs.Pairs.{lanczos-found-calls}
-use Rattle.lanczoscalls.specs.Told.{Fit, Points, Says, Stepped, innerOf}
-use Rattle.lanczoscalls.specs.ToldLaws.{inner-ran, lanczos-answers-calls, lanczos-exactly-calls, lanczos-index-points-calls, lanczos-index-zero-calls, lanczos-says-calls}
-use Rattle.lanczoschecks.specs.Checks.{checks}
+use Rattle.lanczos_theorems.specs.Early.{Outcome, Promised, Untouched}
+use Rattle.lanczos_theorems.specs.Limit.{lanczos-limit-calls}
+use Rattle.lanczos_theorems.specs.OldContents.{lanczos-old-contents-calls, lanczos-untouched}
+use Rattle.lanczos_theorems.specs.OneOutcome.{lanczos-one}
+use Rattle.lanczos_theorems.specs.Result.{lanczos-out-calls}
+use Rattle.lanczos_theorems.specs.Pairs.{lanczos-found-calls}
+use Rattle.lanczos_theorems.specs.RunOutcome.{Fit, Points, Says, Stepped, innerOf}
+use Rattle.lanczos_theorems.specs.RunOutcomeLaws.{inner-ran, lanczos-answers-calls, lanczos-exactly-calls, lanczos-index-points-calls, lanczos-index-zero-calls, lanczos-says-calls}
+use Rattle.lanczos.specs.Checks.{checks}
 use Rattle.leaves.specs.Finite.{Finite}
 
 -- Two outcomes that satisfy the promise are one.

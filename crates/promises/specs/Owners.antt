@@ -7,16 +7,16 @@ use lib.Dec.{eqb}
 use lib.ListN.{length, replicate}
 use Rattle.answers.specs.Answers.{done, refused}
 use Rattle.answers.specs.declared.Answer.{Answer}
-use Rattle.ownermap.specs.Apart.{own-map, own-store, owners-agree, owners-apart, part-kept}
-use Rattle.ownermap.specs.Events.{By, Event2, ResetBoth, callFor, ownArrays, ownEvents, ownSeen, twoStep}
-use Rattle.ownermap.proofs.Worked.{worked}
-use Rattle.ownermap.specs.LaidLaws.{nobody}
-use Rattle.ownermap.specs.Nobody.{nobody-drop, nobody-fetch, nobody-length, nobody-put}
-use Rattle.ownermap.specs.One.{drop-for-one, fetch-for-one, length-for-one, put-for-one, reset-one, set-up2-one}
-use Rattle.ownermap.specs.Owners.{barred, dropFor, fetchFor, laid, lengthFor, listed2, putFor, reset, setUp2}
-use Rattle.storemap.specs.Calls.{Arrays, Call, Drop, Fetch, Length, Put, mapStep, run, storeStep}
-use Rattle.storemap.specs.Sequence.{emptied}
-use Rattle.storemap.specs.Store.{Outcome, listed}
+use Rattle.store_definition.specs.OwnersApart.{own-map, own-store, owners-agree, owners-apart, part-kept}
+use Rattle.store_definition.specs.OwnersEvents.{By, Event2, ResetBoth, callFor, ownArrays, ownEvents, ownSeen, twoStep}
+use Rattle.store_definition.proofs.OwnersWorked.{worked}
+use Rattle.store_definition.specs.LaidLaws.{nobody}
+use Rattle.store_definition.specs.Nobody.{nobody-drop, nobody-fetch, nobody-length, nobody-put}
+use Rattle.store_definition.specs.OwnersOneOutcome.{drop-for-one, fetch-for-one, length-for-one, put-for-one, reset-one, set-up2-one}
+use Rattle.store_definition.specs.Owners.{barred, dropFor, fetchFor, laid, lengthFor, listed2, putFor, reset, setUp2}
+use Rattle.store_definition.specs.Calls.{Arrays, Call, Drop, Fetch, Length, Put, mapStep, run, storeStep}
+use Rattle.store_definition.specs.Sequence.{emptied}
+use Rattle.store_definition.specs.Store.{Outcome, listed}
 
 -- Two outcomes of a set-up of both owners that satisfy its promise are one.
 pub t2-set-up2-one : (list tiles bytes : List ℕ) → (quota0 quota1 : ℕ) (o p : Answer × List ℕ) → o ≡ setUp2 list tiles bytes quota0 quota1

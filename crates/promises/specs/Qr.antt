@@ -5,12 +5,12 @@ use lib.ListN.{length}
 use Rattle.answers.specs.Early.{Early}
 use Rattle.answers.specs.Index.{AtMark}
 use Rattle.answers.specs.declared.Answer.{Answer}
-use Rattle.calls.specs.Answers.{qr-q-finite-out-calls, qr-q-index-points-calls, qr-q-index-zero-calls, qr-q-old-contents-calls}
+use Rattle.calls_theorems.specs.Answers.{qr-q-finite-out-calls, qr-q-index-points-calls, qr-q-index-zero-calls, qr-q-old-contents-calls}
 use Rattle.grid.specs.Real.{Vec}
 use Rattle.leaves.specs.Finite.{Finite}
-use Rattle.qr.specs.One.{qr-q-one}
-use Rattle.qr.specs.Qr.{qrQ}
-use Rattle.qr.specs.Index as Qr
+use Rattle.qr_q.specs.OneOutcome.{qr-q-one}
+use Rattle.qr_q.specs.QrQ.{qrQ}
+use Rattle.qr_q.specs.Index as Qr
 
 -- Two outcomes that satisfy the promise are one.
 pub t2-qr-q-one : (m k : ℕ) (a x : Vec) (o p : Answer × Vec) → o ≡ qrQ m k a x → p ≡ qrQ m k a x → o ≡ p

@@ -9,20 +9,20 @@ use Rattle.answers.specs.Answers.{refused}
 use Rattle.answers.specs.Early.{EarlyOr11}
 use Rattle.answers.specs.Index.{AtMark}
 use Rattle.answers.specs.declared.Answer.{Answer}
-use Rattle.calls.specs.Answers.{pseudo-inverse-as-before-calls, pseudo-inverse-finite-out-calls, pseudo-inverse-index-points-calls, pseudo-inverse-index-zero-calls, pseudo-inverse-old-contents-calls, pseudo-inverse-tolerance-zero-calls, solve-as-before-calls, solve-finite-out-calls, solve-index-points-calls, solve-index-zero-calls, solve-old-contents-calls, solve-tolerance-zero-calls}
-use Rattle.calls.specs.Refusals.{pseudo-inverse-11-exactly-calls, solve-11-exactly-calls}
-use Rattle.calls.specs.Sayings.{Says, Weighs}
-use Rattle.calls.specs.Together.{svd-then-pseudo-inverse, svd-then-solve}
-use Rattle.checks.specs.Checks.{fitting, toleranceGood}
-use Rattle.checks.specs.ToleranceLaws.{fitting-11, tolerance-refused-exactly}
+use Rattle.calls_theorems.specs.Answers.{pseudo-inverse-as-before-calls, pseudo-inverse-finite-out-calls, pseudo-inverse-index-points-calls, pseudo-inverse-index-zero-calls, pseudo-inverse-old-contents-calls, pseudo-inverse-tolerance-zero-calls, solve-as-before-calls, solve-finite-out-calls, solve-index-points-calls, solve-index-zero-calls, solve-old-contents-calls, solve-tolerance-zero-calls}
+use Rattle.calls_theorems.specs.Refusals.{pseudo-inverse-11-exactly-calls, solve-11-exactly-calls}
+use Rattle.calls_theorems.specs.Sayings.{Says, Weighs}
+use Rattle.calls_theorems.specs.Together.{svd-then-pseudo-inverse, svd-then-solve}
+use Rattle.answers.specs.Checks.{fitting, toleranceGood}
+use Rattle.answers.specs.ToleranceLaws.{fitting-11, tolerance-refused-exactly}
 use Rattle.grid.specs.Real.{Vec, zero64}
-use Rattle.inverse.specs.Inverse.{inverted}
+use Rattle.solve.specs.PseudoInverse.{inverted}
 use Rattle.leaves.specs.Finite.{Finite}
-use Rattle.plain.specs.Exact.{Outcome, Promised}
-use Rattle.solution.specs.Solution.{solution}
-use Rattle.solve.specs.Before.{pseudoInverseBefore, solveBefore}
-use Rattle.solve.specs.Checked.{solve-checks-5}
-use Rattle.solve.specs.One.{pseudo-inverse-one, solve-one}
+use Rattle.svd_theorems.specs.Outcome.{Outcome, Promised}
+use Rattle.solve.specs.Solution.{solution}
+use Rattle.solve.specs.WithoutToleranceCheck.{pseudoInverseBefore, solveBefore}
+use Rattle.solve.specs.ChecksLaws.{solve-checks-5}
+use Rattle.solve.specs.OneOutcome.{pseudo-inverse-one, solve-one}
 use Rattle.solve.specs.Solve.{pseudoInverse, solve, solveChecks}
 use Rattle.solve.specs.Index as Solve
 

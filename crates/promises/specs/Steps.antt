@@ -5,15 +5,15 @@ use Prim.Native.Nat.{_*_, _+_, _≤_, suc, ℕ}
 use lib.Dec.{eqb}
 use Rattle.answers.specs.Answers.{done, refused}
 use Rattle.answers.specs.declared.Answer.{Answer}
-use Rattle.eigen.specs.Eigen.{eigen}
+use Rattle.eigen_symmetric_eigen.specs.SymmetricEigen.{eigen}
 use Rattle.grid.specs.Real.{Vec}
-use Rattle.pass.specs.declared.Run.{Run}
-use Rattle.stepcalls.specs.Calls.{Stepping, early-finish-calls, ended-repeats-calls, finish-one, never-refused-calls, start-one, step-one, steps-end-as-one-call-calls, while-going-calls}
-use Rattle.stepcalls.specs.Ends.{answer-forgotten, finish-ends-it, finish-in-time, steps-arrive, steps-at-most}
-use Rattle.stepcalls.specs.Paces.{passes-by-steps, start-runs-none, step-runs-one, step-runs-one-at-most, steps-not-fewer}
-use Rattle.stepcalls.specs.Runs.{Reached, after, arrived, reply}
-use Rattle.steps.specs.Steps.{Outcome, answering, finished, recorded, running, started, stepped}
-use Rattle.steps.specs.declared.EigenRun.{EigenRun}
+use Rattle.eigen_tql2_pass.specs.declared.Run.{Run}
+use Rattle.eigen_theorems.specs.StepCalls.{Stepping, early-finish-calls, ended-repeats-calls, finish-one, never-refused-calls, start-one, step-one, steps-end-as-one-call-calls, while-going-calls}
+use Rattle.eigen_theorems.specs.StepsEnd.{answer-forgotten, finish-ends-it, finish-in-time, steps-arrive, steps-at-most}
+use Rattle.eigen_theorems.specs.StepsPasses.{passes-by-steps, start-runs-none, step-runs-one, step-runs-one-at-most, steps-not-fewer}
+use Rattle.eigen_theorems.specs.StepsRuns.{Reached, after, arrived, reply}
+use Rattle.eigen_steps.specs.Steps.{Outcome, answering, finished, recorded, running, started, stepped}
+use Rattle.eigen_steps.specs.declared.EigenRun.{EigenRun}
 
 -- Two outcomes of a start that satisfy its promise are one.
 pub t2-start-one : (n limit edition : ℕ) (a work result : Vec) (s t : Outcome) → s ≡ started n limit edition a work result

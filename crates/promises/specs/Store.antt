@@ -6,11 +6,11 @@ use Prim.Native.Nat.{_≤_, ℕ}
 use lib.ListN.{length}
 use Rattle.answers.specs.Answers.{done, refused}
 use Rattle.answers.specs.declared.Answer.{Answer}
-use Rattle.storemap.proofs.Worked.{looked, worked}
-use Rattle.storemap.specs.Calls.{Arrays, Call, Do, Drop, Event, Fetch, Length, Put, Reset, mapCall, mapOf, mapStep, run, storeCall, storeStep}
-use Rattle.storemap.specs.One.{drop-one, fetch-one, length-one, put-one, set-up-one}
-use Rattle.storemap.specs.Sequence.{as-a-map, as-it-shows, commutes, emptied}
-use Rattle.storemap.specs.Store.{Outcome, dropOf, fetchOf, lengthHeld, listed, putOf, roomOf, setUp, sound}
+use Rattle.store_definition.proofs.Worked.{looked, worked}
+use Rattle.store_definition.specs.Calls.{Arrays, Call, Do, Drop, Event, Fetch, Length, Put, Reset, mapCall, mapOf, mapStep, run, storeCall, storeStep}
+use Rattle.store_definition.specs.OneOutcome.{drop-one, fetch-one, length-one, put-one, set-up-one}
+use Rattle.store_definition.specs.Sequence.{as-a-map, as-it-shows, commutes, emptied}
+use Rattle.store_definition.specs.Store.{Outcome, dropOf, fetchOf, lengthHeld, listed, putOf, roomOf, setUp, sound}
 
 -- Two outcomes of a set-up that satisfy its promise are one.
 pub t2-set-up-one : (entries : ℕ) (list tiles bytes : List ℕ) → (o p : Answer × List ℕ) → o ≡ setUp entries list tiles bytes

@@ -8,23 +8,23 @@ use lib.ListN.{drop, getD, length, take}
 use Rattle.answers.specs.Answers.{answered, decompositionLength, done, least}
 use Rattle.answers.specs.Early.{Early}
 use Rattle.answers.specs.Index.{AtMark}
-use Rattle.calls.specs.Svd.{svd-cells-u-calls, svd-cells-vt-calls, svd-descends-calls, svd-done-exactly-calls, svd-finite-out-calls, svd-flags-numbers-calls, svd-flags-u-calls, svd-flags-values-calls, svd-flags-vt-calls, svd-index-points-calls, svd-index-zero-calls, svd-limit-exactly-calls, svd-limit-raised-calls, svd-mark1-exactly-calls, svd-mark2-exactly-calls, svd-old-contents-calls, vt-row-cells-calls}
+use Rattle.calls_theorems.specs.Svd.{svd-cells-u-calls, svd-cells-vt-calls, svd-descends-calls, svd-done-exactly-calls, svd-finite-out-calls, svd-flags-numbers-calls, svd-flags-u-calls, svd-flags-values-calls, svd-flags-vt-calls, svd-index-points-calls, svd-index-zero-calls, svd-limit-exactly-calls, svd-limit-raised-calls, svd-mark1-exactly-calls, svd-mark2-exactly-calls, svd-old-contents-calls, vt-row-cells-calls}
 use Rattle.grid.specs.Real.{Vec, at, zeros}
 use Rattle.leaves.specs.Leaf.{isFinite}
-use Rattle.order.specs.Order.{order}
-use Rattle.plain.specs.Document.{Sorted, plainSvd, plainWork, valueOf}
-use Rattle.plain.specs.Exact.{Broken2, Done, Halted, Outcome, Promised, Taken, orderOf, uCell, uFactor, vFactor, vtCell}
-use Rattle.plain.specs.ExactLaws.{svd-done-result, svd-limit-spent}
-use Rattle.plain.specs.Index.{Points}
-use Rattle.plain.specs.Promise.{svd-one-outcome, svd-plain, svd-sorted, svd-values}
-use Rattle.plain.specs.Sorted.{order-sorted}
-use Rattle.plain.specs.Told.{bad, used}
-use Rattle.row.specs.Placed.{extent-at, extent-part}
-use Rattle.row.specs.Row.{extentOf, partAt, partOf, rowSpan}
-use Rattle.row.specs.declared.Span.{Span}
-use Rattle.sorted.specs.Result.{longest, sortedOut, workLength}
+use Rattle.svd_sort_svd_descending.specs.Order.{order}
+use Rattle.svd_theorems.specs.Document.{Sorted, plainSvd, plainWork, valueOf}
+use Rattle.svd_theorems.specs.Outcome.{Broken2, Done, Halted, Outcome, Promised, Taken, orderOf, uCell, uFactor, vFactor, vtCell}
+use Rattle.svd_theorems.specs.OutcomeLaws.{svd-done-result, svd-limit-spent}
+use Rattle.svd_theorems.specs.Index.{Points}
+use Rattle.svd_theorems.specs.Promise.{svd-one-outcome, svd-plain, svd-sorted, svd-values}
+use Rattle.svd_theorems.specs.Order.{order-sorted}
+use Rattle.svd_theorems.specs.SweepsOutcome.{bad, used}
+use Rattle.svd.specs.VtRowPlaced.{extent-at, extent-part}
+use Rattle.svd.specs.VtRow.{extentOf, partAt, partOf, rowSpan}
+use Rattle.svd.specs.declared.vt_row.Span.{Span}
+use Rattle.svd_sort_svd_descending.specs.Result.{longest, sortedOut, workLength}
 use Rattle.svd.specs.Svd.{svd}
-use Rattle.values.specs.Values.{normalised}
+use Rattle.svd_jacobi_svd_tall.specs.SingularValues.{normalised}
 
 -- Two outcomes that satisfy the promise are one.
 pub t2-svd-one-outcome : (m n wantU wantVt limit : ℕ) (matrix work result : Vec) (x y : Outcome)

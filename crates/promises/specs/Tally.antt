@@ -5,14 +5,14 @@ use mathlib.Core.Path.{_≡_}
 use Prim.Native.Nat.{ℕ}
 use lib.Dec.{ltb}
 use lib.ListN.{length}
-use Rattle.figures.proofs.Worked.{edges, worked}
-use Rattle.figures.specs.Counted.{answered, counted, counted-taken, refused-stays, replied, taken-accepted}
-use Rattle.figures.specs.Figures.{Tile, accepted, good}
-use Rattle.figures.specs.One.{tally-one}
-use Rattle.figures.specs.Series.{figures, series, takenOf}
-use Rattle.figures.specs.Tallies.{none, outcome, refusal}
-use Rattle.figures.specs.declared.Reply.{Reply}
-use Rattle.figures.specs.declared.Tally.{Tally}
+use Rattle.tally_definition.proofs.Worked.{edges, worked}
+use Rattle.tally_definition.specs.Counted.{answered, counted, counted-taken, refused-stays, replied, taken-accepted}
+use Rattle.tally_definition.specs.Figures.{Tile, accepted, good}
+use Rattle.tally_definition.specs.OneOutcome.{tally-one}
+use Rattle.tally_definition.specs.Series.{figures, series, takenOf}
+use Rattle.tally_definition.specs.Tallies.{none, outcome, refusal}
+use Rattle.tally_definition.specs.declared.Reply.{Reply}
+use Rattle.tally_definition.specs.declared.Tally.{Tally}
 
 -- Two outcomes of the call that adds a tile are one where they satisfy its promise.
 pub t2-tally-one : (t : Tally) (answer passes : ℕ) (o p : Reply) → o ≡ outcome t answer passes → p ≡ outcome t answer passes → o ≡ p

@@ -2,13 +2,13 @@
 use mathlib.Core.List.{List, [], _∷_, _++_}
 use mathlib.Core.Path.{_≡_}
 use Prim.Native.Nat.{ℕ}
-use Rattle.figures.specs.Figures.{Tile}
-use Rattle.figures.specs.Series.{figures, series}
-use Rattle.figures.specs.Tallies.{none}
-use Rattle.tiletext.specs.LineLaws.{one-series, tallied-figures, tallied-series, told}
-use Rattle.tiletext.specs.Lines.{Full, Reads, Told, fresh, heard, run, tallied, whole}
-use Rattle.tiletext.specs.StepLaws.{heard-tallied, run-append}
-use Rattle.tiletext.specs.declared.Series.{Series}
+use Rattle.tally_definition.specs.Figures.{Tile}
+use Rattle.tally_definition.specs.Series.{figures, series}
+use Rattle.tally_definition.specs.Tallies.{none}
+use Rattle.text_tiles_definition.specs.LineLaws.{one-series, tallied-figures, tallied-series, told}
+use Rattle.text_tiles_definition.specs.Lines.{Full, Reads, Told, fresh, heard, run, tallied, whole}
+use Rattle.text_tiles_definition.specs.StepLaws.{heard-tallied, run-append}
+use Rattle.text_tiles_definition.specs.declared.Series.{Series}
 
 -- Every text is the lines of some tiles, none of which is refused, and then something that starts with no line of a tile that is taken.
 pub t32-told : (t : List ℕ) → Reads t

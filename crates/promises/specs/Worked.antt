@@ -3,8 +3,8 @@ use mathlib.Core.Path.{_≡_}
 use mathlib.Core.Bool.{true}
 use mathlib.Core.List.{[], _∷_}
 use lib.ListN.{replicate}
-use Rattle.worked.specs.Worked.{root, hypot, eigen, svd, solve, pseudoInverse, qrQ, eigenBy, lanczos, steps, all, quarter, half, one, two, three, four, five, minus-zero, not-a-number, infinity, minus-infinity, minus-least, decomposition, untouched, minus-one, large, huge, minus-huge, largest, minus-largest, turned-decomposition}
-use Rattle.worked.specs.Worked.{worked, marks-worked, turned-worked, led-worked, stepwise-worked}
+use Rattle.worked_theorems.specs.Worked.{root, hypot, eigen, svd, solve, pseudoInverse, qrQ, eigenBy, lanczos, steps, all, quarter, half, one, two, three, four, five, minus-zero, not-a-number, infinity, minus-infinity, minus-least, decomposition, untouched, minus-one, large, huge, minus-huge, largest, minus-largest, turned-decomposition}
+use Rattle.worked_theorems.specs.Worked.{worked, marks-worked, turned-worked, led-worked, stepwise-worked}
 
 -- The scope's worked numbers that are marked P, computed by the definitions.
 pub t6-worked : all

@@ -9,11 +9,11 @@ use lib.Dec.{ltb, eqb}
 use lib.Ieee.{Float}
 use Rattle.answers.specs.Answers.{refused, done, present, decompositionLength}
 use Rattle.answers.specs.declared.Answer.{Answer}
-use Rattle.checks.specs.Checks.{fitting}
-use Rattle.checks.specs.ToleranceLaws.{fitting-right}
+use Rattle.answers.specs.Checks.{fitting}
+use Rattle.answers.specs.ToleranceLaws.{fitting-right}
 use Rattle.solve.specs.Solve.{parts, solveChecks, inverseChecks}
-use Rattle.solution.specs.SolutionLaws.{Sized}
-use Rattle.solve.specs.Checked.{solve-checks-5, solve-checks-last, inverse-checks-last}
+use Rattle.solve.specs.SolutionLaws.{Sized}
+use Rattle.solve.specs.ChecksLaws.{solve-checks-5, solve-checks-last, inverse-checks-last}
 
 -- the answer is that of the checks
 pub told : {r s : Answer} → r ≡ s → r .answer ≡ 0 → s .answer ≡ 0

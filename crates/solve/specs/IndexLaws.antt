@@ -16,10 +16,10 @@ use Rattle.answers.specs.Index.{AtMark, Indexed}
 use Rattle.answers.specs.IndexLaws.{below, pointed, unless-indexed, by-unmarked}
 use Rattle.answers.specs.declared.Answer.{Answer}
 use Rattle.solve.specs.Solve.{looked, solveChecks, inverseChecks, solve, pseudoInverse}
-use Rattle.solution.specs.Solution.{solution}
-use Rattle.inverse.specs.Inverse.{inverted}
+use Rattle.solve.specs.Solution.{solution}
+use Rattle.solve.specs.PseudoInverse.{inverted}
 use Rattle.solve.specs.Index.{Points}
-use Rattle.solve.specs.Checked.{solve-checked, inverse-checked}
+use Rattle.solve.specs.ChecksLaws.{solve-checked, inverse-checked}
 
 looked-indexed : (x : Vec) → Indexed (Points x) (looked x .0)
 unfolding looked

@@ -8,10 +8,10 @@ use lib.ListN.{length}
 use Rattle.grid.specs.Real.{Vec}
 use Rattle.answers.specs.Answers.{refused, done, passed, decompositionLength, emptied, marked, unlessBad}
 use Rattle.answers.specs.declared.Answer.{Answer}
-use Rattle.checks.specs.Checks.{fitting}
+use Rattle.answers.specs.Checks.{fitting}
 use Rattle.leaves.specs.Scan.{isBad, firstBad}
-use Rattle.solution.specs.Solution.{solution}
-use Rattle.inverse.specs.Inverse.{inverted}
+use Rattle.solve.specs.Solution.{solution}
+use Rattle.solve.specs.PseudoInverse.{inverted}
 
 -- ---- the checks, on flags, tolerance and lengths
 

@@ -11,12 +11,12 @@ use Rattle.grid.specs.Cell.{entry}
 use Rattle.grid.specs.Table.{table, rows}
 use Rattle.leaves.specs.Scan.{firstBad}
 use Rattle.answers.specs.Answers.{passed, least, decompositionLength, unlessBad}
-use Rattle.checks.specs.Checks.{toleranceGood, fitting}
-use Rattle.checks.specs.ToleranceLaws.{fitting-lengths, zero-good, minus-zero-good, above-minus-zero}
-use Rattle.solution.specs.Solution.{valuesOf, uOf, vtOf, columnSum, coefficient, solution}
-use Rattle.inverse.specs.Inverse.{inverse, pinvSum, inverted}
+use Rattle.answers.specs.Checks.{toleranceGood, fitting}
+use Rattle.answers.specs.ToleranceLaws.{fitting-lengths, zero-good, minus-zero-good, above-minus-zero}
+use Rattle.solve.specs.Solution.{valuesOf, uOf, vtOf, columnSum, coefficient, solution}
+use Rattle.solve.specs.PseudoInverse.{inverse, pinvSum, inverted}
 use Rattle.solve.specs.Solve.{solveChecks, inverseChecks, looked, solve, pseudoInverse}
-use Rattle.solve.specs.Before.{solveBefore, pseudoInverseBefore}
+use Rattle.solve.specs.WithoutToleranceCheck.{solveBefore, pseudoInverseBefore}
 
 -- ---- -0.0, which is neg zero64, and 0
 

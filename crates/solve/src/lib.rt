@@ -1,16 +1,21 @@
 // The least-squares solution and the pseudo-inverse by a decomposition that `svd` made (document 000's
 // `Svd::solve` and `Svd::pseudo_inverse`).
+mod solution; // The least-squares solution by the parts of a decomposition, operation for operation (document 000's `Svd::solve`)
+mod pseudo_inverse_rows; // The pseudo-inverse by the parts of a decomposition, operation for operation (document 000's `Svd::pseudo_inverse`)
+
 ghost use mathlib.Core.Path.{_≡_};
 ghost use mathlib.Core.List.{_++_};
 ghost use Prim.Native.Nat.{_*_};
 ghost use lib.ListN.{length};
 ghost use Rattle.answers.specs.Answers.{done, unlessBad};
 ghost use Rattle.leaves.specs.Scan.{firstBad};
-ghost use Rattle.solution.specs.Solution.{solution};
-ghost use Rattle.inverse.specs.Inverse.{inverted};
+ghost use Rattle.solve.specs.Solution.{solution};
+ghost use Rattle.solve.specs.PseudoInverse.{inverted};
 ghost use Rattle.solve.specs.Solve.{parts, solveChecks, inverseChecks, looked, solve, pseudoInverse};
-ghost use Rattle.solution.specs.SolutionLaws.{Sized};
+ghost use Rattle.solve.specs.SolutionLaws.{Sized};
+use crate::pseudo_inverse_rows::inverted;
 use answers::Answer;
+use answers::checks::fitting;
 use answers::decomposition_length;
 use answers::done;
 use answers::least;
@@ -18,13 +23,10 @@ use answers::marked;
 use answers::refusal7;
 use answers::refuse;
 use answers::refused;
-use checks::fitting;
 use grid::LARGEST;
-use inverse::inverted;
 use leaves::is_bad;
-use scan::first_bad;
-use scan::first_bad_of_both;
-use solution::solution;
+use leaves::scan::first_bad;
+use leaves::scan::first_bad_of_both;
 
 // Refusals 1, 3 and 4.
 fn parts(m: usize, n: usize, has_u: usize, has_vt: usize) -> Answer
@@ -104,7 +106,7 @@ fn solve_looked(m: usize, n: usize, tolerance: f64, d: &[f64], b: &[f64], x: &mu
 {
     let r = least(m, n);
     let mut c = [0.0f64; LARGEST];
-    solution(m, n, r, tolerance, d, b, &mut c[..r], x);
+    crate::solution::solution(m, n, r, tolerance, d, b, &mut c[..r], x);
     look(x)
 }
 

@@ -1,2 +1,2 @@
 -- What the functions' proofs share.
-mod Sound
+mod Fits

@@ -1,79 +1,110 @@
-// A store of blocks under tile numbers, in one lent buffer. What it holds stands outside of the buffer: `list` has the room, how many
-// blocks are held and the length of each, `tiles` the tile number of each, in the order in which the blocks stand, one behind the other
-// from the buffer's start on. `entries` is the most blocks that it may hold.
-ghost use mathlib.Core.Path.{_≡_};
-ghost use Rattle.storemap.specs.Store.{setUp, putOf, dropOf};
-use answers::Answer;
-use answers::done;
-use answers::refused;
-use storeloops::MOST;
-use storeloops::find;
-use storeloops::is_listed;
-use storeloops::is_sound;
-use storeloops::start_of;
-use storemoves::add;
-use storemoves::remove;
+// Two owners, 0 and 1, over one store. Each has 32 entries of the list and of the tiles, and as many bytes of the buffer as its quota; its calls are the
+// store's own calls on those parts.
+mod loops; // What the store's calls go through: the search for a tile, where a block starts, whether a store is sound, and the moves of bytes, tiles and lengths
+mod add_remove; // What changes in a store (`one_owner`): a block added behind the others, a block gone and those behind it moved down
+pub mod length_fetch; // A store (`one_owner`) read: the length of a tile's block, and the block
+pub mod one_owner; // A store of blocks under tile numbers, in one lent buffer
+pub mod quotas; // Two owners' parts of one store: the set-up with their quotas, the reset, and what is refused before an owner's part is looked at
 
-// The empty store over a buffer of at most 65,536 bytes.
-pub fn set_up(entries: usize, list: &mut [usize], tiles: &[u16], bytes: &[u8]) -> Answer
-    ensures { λ r. ⌜ (r, now (list .exit)) ≡ setUp entries (now (list .entry)) (now (tiles .entry)) (now (bytes .entry)) ⌝ }
-{
-    let room = bytes.len();
-    if room > MOST {
-        return refused(37, 0);
-    }
-    if !is_listed(entries, list, tiles) {
-        return refused(39, 0);
-    }
-    list[0] = room;
-    list[1] = 0;
-    done(0)
-}
+ghost use mathlib.Core.Path.{_≡_};
+ghost use Rattle.store_definition.specs.Owners.{putFor, lengthFor, fetchFor, dropFor};
+use crate::quotas::bar;
+use answers::Answer;
+use answers::refused;
 
 pub fn put(
-    entries: usize,
+    owner: usize,
     list: &mut [usize],
     tiles: &mut [u16],
     bytes: &mut [u8],
     tile: u16,
     block: &[u8],
 ) -> Answer
-    ensures { λ r. ⌜ (r, now (list .exit), now (tiles .exit), now (bytes .exit)) ≡ putOf entries (now (list .entry)) (now (tiles .entry)) (now (bytes .entry)) tile (now (block .entry)) ⌝ }
+    ensures { λ r. ⌜ (r, now (list .exit), now (tiles .exit), now (bytes .exit)) ≡ putFor owner (now (list .entry)) (now (tiles .entry)) (now (bytes .entry)) tile (now (block .entry)) ⌝ }
 {
-    if !is_sound(entries, list, tiles, bytes) {
-        return refused(39, 0);
+    let barred = bar(owner, list, tiles, bytes);
+    if barred != 0 {
+        return refused(barred, 0);
     }
-    let held = list[1];
-    if find(&tiles[..held], tile) < held {
-        return refused(31, 0);
-    }
-    if entries <= held {
-        return refused(33, 0);
-    }
-    let used = start_of(list, held);
-    if block.len() > bytes.len() - used {
-        return refused(30, 0);
-    }
-    add(list, tiles, bytes, used, tile, block)
+    let a = 1 + owner * 34;
+    let e = a + 34;
+    let b = owner * 32;
+    let f = b + 32;
+    let at = owner * list[1];
+    let end = at + list[a];
+    crate::one_owner::put(
+        32,
+        &mut list[a..e],
+        &mut tiles[b..f],
+        &mut bytes[at..end],
+        tile,
+        block,
+    )
 }
 
-// A tile's block gone, and its room free.
+pub fn length_of(owner: usize, list: &[usize], tiles: &[u16], bytes: &[u8], tile: u16) -> Answer
+    ensures { λ r. ⌜ r ≡ lengthFor owner (now (list .entry)) (now (tiles .entry)) (now (bytes .entry)) tile ⌝ }
+{
+    let barred = bar(owner, list, tiles, bytes);
+    if barred != 0 {
+        return refused(barred, 0);
+    }
+    let a = 1 + owner * 34;
+    let e = a + 34;
+    let b = owner * 32;
+    let f = b + 32;
+    let at = owner * list[1];
+    let end = at + list[a];
+    crate::length_fetch::length_of(32, &list[a..e], &tiles[b..f], &bytes[at..end], tile)
+}
+
+pub fn fetch(
+    owner: usize,
+    list: &[usize],
+    tiles: &[u16],
+    bytes: &[u8],
+    tile: u16,
+    out: &mut [u8],
+) -> Answer
+    ensures { λ r. ⌜ (r, now (out .exit)) ≡ fetchFor owner (now (list .entry)) (now (tiles .entry)) (now (bytes .entry)) tile (now (out .entry)) ⌝ }
+{
+    let barred = bar(owner, list, tiles, bytes);
+    if barred != 0 {
+        return refused(barred, 0);
+    }
+    let a = 1 + owner * 34;
+    let e = a + 34;
+    let b = owner * 32;
+    let f = b + 32;
+    let at = owner * list[1];
+    let end = at + list[a];
+    crate::length_fetch::fetch(32, &list[a..e], &tiles[b..f], &bytes[at..end], tile, out)
+}
+
 pub fn drop_tile(
-    entries: usize,
+    owner: usize,
     list: &mut [usize],
     tiles: &mut [u16],
     bytes: &mut [u8],
     tile: u16,
 ) -> Answer
-    ensures { λ r. ⌜ (r, now (list .exit), now (tiles .exit), now (bytes .exit)) ≡ dropOf entries (now (list .entry)) (now (tiles .entry)) (now (bytes .entry)) tile ⌝ }
+    ensures { λ r. ⌜ (r, now (list .exit), now (tiles .exit), now (bytes .exit)) ≡ dropFor owner (now (list .entry)) (now (tiles .entry)) (now (bytes .entry)) tile ⌝ }
 {
-    if !is_sound(entries, list, tiles, bytes) {
-        return refused(39, 0);
+    let barred = bar(owner, list, tiles, bytes);
+    if barred != 0 {
+        return refused(barred, 0);
     }
-    let held = list[1];
-    let k = find(&tiles[..held], tile);
-    if k >= held {
-        return refused(32, 0);
-    }
-    remove(list, tiles, bytes, k)
+    let a = 1 + owner * 34;
+    let e = a + 34;
+    let b = owner * 32;
+    let f = b + 32;
+    let at = owner * list[1];
+    let end = at + list[a];
+    crate::one_owner::drop_tile(
+        32,
+        &mut list[a..e],
+        &mut tiles[b..f],
+        &mut bytes[at..end],
+        tile,
+    )
 }

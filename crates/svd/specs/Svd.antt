@@ -1,4 +1,4 @@
--- `svd` of document 000 with 01's checks: the whole outcome of a call, its four numbers, the work array and the result. Definitions only.
+-- `svd` of document 000 with the scope's checks: the whole outcome of a call, its four numbers, the work array and the result. Definitions only.
 use mathlib.Core.Bool.{cond, _||_}
 use Prim.Native.Nat.{ℕ, _+_, _*_}
 use lib.Dec.{ltb}
@@ -10,9 +10,9 @@ use Rattle.grid.specs.Cell.{entry}
 use Rattle.leaves.specs.Scan.{firstBad}
 use Rattle.answers.specs.Answers.{refused, passed, least, decompositionLength, refusal7}
 use Rattle.answers.specs.declared.Answer.{Answer}
-use Rattle.checks.specs.Checks.{limitGood, lengths}
-use Rattle.jacobi.specs.Jacobi.{jacobi}
-use Rattle.sorted.specs.Result.{longest, workLength, sortedOut}
+use Rattle.answers.specs.Checks.{limitGood, lengths}
+use Rattle.svd_jacobi_svd_tall.specs.JacobiSvdTall.{jacobi}
+use Rattle.svd_sort_svd_descending.specs.Result.{longest, workLength, sortedOut}
 
 -- ---- into the work array
 

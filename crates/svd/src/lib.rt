@@ -1,29 +1,31 @@
 // The svd of a matrix: the checks, the work array, the sweeps and the sorted result.
+pub mod vt_row; // Row j of V^T in an svd result: the part that it is, and the same part by its numbers
+
 ghost use mathlib.Core.Path.{_≡_};
 ghost use mathlib.Core.Bool.{cond};
 ghost use Prim.Native.Nat.{_+_, _*_, _≤_, _<_};
 ghost use lib.Dec.{eqb};
 ghost use lib.ListN.{length};
 ghost use Rattle.answers.specs.Answers.{least};
-ghost use Rattle.sweep.specs.Kept.{Sized};
-ghost use Rattle.sorted.specs.Result.{longest, workLength, sortedOut};
+ghost use Rattle.svd_jacobi_svd_tall.specs.SweepLengths.{Sized};
+ghost use Rattle.svd_sort_svd_descending.specs.Result.{longest, workLength, sortedOut};
 ghost use Rattle.svd.specs.Svd.{source, columnLoaded, matrixLoaded, eyed, checks, ran, svd};
-ghost use Rattle.sorted.specs.Known.{Checked};
+ghost use Rattle.svd_sort_svd_descending.specs.ResultSizes.{Checked};
 use answers::Answer;
+use answers::checks::lengths;
+use answers::checks::limit_good;
 use answers::decomposition_length;
 use answers::least;
 use answers::refusal7;
 use answers::refused;
-use checks::lengths;
-use checks::limit_good;
 use grid::LARGEST;
 use grid::entry;
 use grid::fill;
 use grid::put1;
-use jacobi::jacobi;
-use scan::first_bad;
-use sorted::longest;
-use sorted::sorted_out;
+use leaves::scan::first_bad;
+use svd_jacobi_svd_tall::jacobi;
+use svd_sort_svd_descending::longest;
+use svd_sort_svd_descending::sorted_out;
 
 fn work_length(m: usize, n: usize) -> usize
     requires { ⌜ (m ≤ 256) × (n ≤ 256) ⌝ }

@@ -4,11 +4,11 @@ use Prim.Native.Nat.{ℕ, _+_, _≤_, _<_}
 use native.Mathlib.Omega.{arith}
 use borrow.Author.Tests.{leb-true, lt-ltb, le-ltb, ne-eqb}
 use lib.ListN.{getD, set}
-use Rattle.figures.specs.Tallies.{smallAt, small, refusal, next, outcome}
-use Rattle.figures.specs.TallyLaws.{Taken}
+use Rattle.tally_definition.specs.Tallies.{smallAt, small, refusal, next, outcome}
+use Rattle.tally_definition.specs.TallyLaws.{Taken}
 use Rattle.grid.specs.LoopLaws.{every-at}
-use Rattle.figures.specs.declared.Tally.{Tally}
-use Rattle.figures.specs.declared.Reply.{Reply}
+use Rattle.tally_definition.specs.declared.Tally.{Tally}
+use Rattle.tally_definition.specs.declared.Reply.{Reply}
 
 pub count-small : (t : Tally) (answer passes : ℕ) → Taken t answer passes → getD (t .counts) answer 0 ≤ 65536
 unfolding small

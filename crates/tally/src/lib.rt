@@ -1,8 +1,8 @@
 // Adding a tile to a tally.
 ghost use mathlib.Core.Path.{_≡_};
-ghost use Rattle.figures.specs.Tallies.{small, refusal, outcome, none};
-use figures::Reply;
-use figures::Tally;
+ghost use Rattle.tally_definition.specs.Tallies.{small, refusal, outcome, none};
+use tally_definition::Reply;
+use tally_definition::Tally;
 
 // The tally of no tile.
 pub fn empty() -> Tally

@@ -1,2 +1,2 @@
--- 01's example and some bad texts, computed.
+-- The scope's example and some bad texts, computed.
 pub mod Worked

@@ -1,4 +1,4 @@
--- The definitions at 01's example and at some texts that are none, computed.
+-- The definitions at the scope's example and at some texts that are none, computed.
 use mathlib.Core.Path.{_≡_, refl}
 use mathlib.Core.Bool.{Bool, true, false, _&&_}
 use mathlib.Core.List.{List, [] as []ᴸ, _∷_ as _∷ᴸ_}
@@ -15,7 +15,7 @@ abbrev pub bytes : String → List ℕ
 bytes [] = []ᴸ
 bytes (c ∷ s) = code c ∷ᴸ bytes s
 
--- 01's example and its answer
+-- The scope's example and its answer
 abbrev pub input : String
 input = "2 60\n4000000000000000 0000000000000000\n0000000000000000 3ff0000000000000\n"
 

@@ -1,4 +1,7 @@
 // The text of the program eigtext: its bytes and digits, and its first line. A place of a text is looked at by a call that minds the end.
+pub mod read; // The reader of the program eigtext's input
+pub mod write; // The writer of the program eigtext's answer
+
 ghost use mathlib.Core.Path.{_≡_};
 ghost use Prim.Native.Nat.{_<_, _≤_};
 ghost use Rattle.text.specs.Writing.{separator};

@@ -2,18 +2,18 @@
 // standard output.
 use libc::STDIN_FILENO;
 use libc::STDOUT_FILENO;
-use tiletext::Series;
+use text_tiles_definition::Series;
 
 // The input's pieces up to the series' end. The bound is none that an input has: it says that this ends.
 fn series(input: i32) -> Series {
-    let mut s = tileread::begun();
+    let mut s = text_tiles::read::begun();
     for k in 0..18446744073709551615usize {
         if s.stage > 1 {
             return s;
         }
         let mut piece = io::buffer();
         let got = io::read_full(input, &mut piece);
-        s = tileio::more(s, &piece[..got]);
+        s = text_tiles::more(s, &piece[..got]);
     }
     s
 }
@@ -21,6 +21,6 @@ fn series(input: i32) -> Series {
 fn main() {
     let s = series(STDIN_FILENO);
     let mut text = [0u8; 512];
-    let length = tileio::report(s, &mut text);
+    let length = text_tiles::report(s, &mut text);
     io::write_all(STDOUT_FILENO, &text[..length]);
 }

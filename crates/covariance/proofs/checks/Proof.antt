@@ -5,7 +5,7 @@ use native.Mathlib.Omega.{arith}
 use borrow.Author.Needs.{needs}
 use borrow.Author.Tests.{lt-ltb, le-ltb}
 use Rattle.covariance.specs.Covariance.{covChecks}
-use Rattle.bands.specs.Parts.{room}
+use Rattle.covariance.specs.BandParts.{room}
 use Rattle.covariance.proofs.checks.Statement.{statement}
 use Rattle.covariance.proofs.checks.Tie as tie
 

@@ -39,13 +39,13 @@ use denote.Triple.Clauses.{ensured, lasts}
 use denote.Triple.Table.{entered, cited}
 use denote.Triple.Walked.{says, Stays, stay-ref, stay-none, walkOf, goes-none, goes-ref, Walks, ends-at, walked, walk-meets}
 use denote.Exit.{yes}
-use Rattle.figures.specs.Tallies.{outcome}
-use Rattle.figures.specs.declared.Tally.{Tally}
-use Rattle.figures.specs.declared.Reply.{Reply}
-use Rattle.figures.proofs.Tally as T
-use Rattle.figures.proofs.Tally.Laws as T′
-use Rattle.figures.proofs.Reply as R
-use Rattle.figures.proofs.Reply.Laws as R′
+use Rattle.tally_definition.specs.Tallies.{outcome}
+use Rattle.tally_definition.specs.declared.Tally.{Tally}
+use Rattle.tally_definition.specs.declared.Reply.{Reply}
+use Rattle.tally_definition.proofs.Tally as T
+use Rattle.tally_definition.proofs.Tally.Laws as T′
+use Rattle.tally_definition.proofs.Reply as R
+use Rattle.tally_definition.proofs.Reply.Laws as R′
 use Rattle.tally.proofs.added as added
 use Rattle.tally.proofs.added.Symbol as added-def
 use Rattle.tally.proofs.added.Symbol.{name as #tally·added}

@@ -3,7 +3,7 @@
 use native.Mathlib.Omega.{arith}
 use borrow.Author.Needs.{needs}
 use denote.Ref.{now}
-use Rattle.eigreply.specs.ReplyLaws.{counts}
+use Rattle.text_reply.specs.ReplyLaws.{counts}
 use Rattle.eigtext.proofs.answer.Statement.{statement}
 use Rattle.eigtext.proofs.answer.Tie as tie
 

@@ -6,7 +6,7 @@ use lib.ListN.{length}
 use denote.Ref.{now}
 use borrow.Author.Tests.{eq-eqb, ne-eqb}
 use Rattle.lanczos.specs.Lanczos.{lanczos}
-use Rattle.lanczoschecks.specs.Checked.{checked}
+use Rattle.lanczos.specs.ChecksLaws.{checked}
 use Rattle.lanczos.proofs.lanczos.Statement.{statement}
 use Rattle.lanczos.proofs.lanczos.Tie as tie
 

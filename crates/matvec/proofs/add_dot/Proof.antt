@@ -7,7 +7,7 @@ use borrow.Author.Needs.{needs}
 use lib.ListN.{length}
 use Rattle.grid.specs.Loop.{upto}
 use Rattle.grid.specs.LoopLaws.{start, next}
-use Rattle.gram.specs.Gram.{dotStep}
+use Rattle.gram_schmidt.specs.Gram.{dotStep}
 use Rattle.grid.specs.Real.{zero64}
 use Rattle.matvec.specs.Matvec.{addStep, added}
 use Rattle.matvec.specs.Rows.{at-turn, add-dot-done}

@@ -1,18 +1,20 @@
 -- Generated from the answers file beside it by tools/prove/prove.py: edit that.
 -- `store::drop_tile` meets its contract.
-use mathlib.Core.Path.{_∙_, refl, sym}
+use mathlib.Core.Path.{refl}
+use Prim.Native.Nat.{ℕ, _+_, _*_}
 use native.Mathlib.Omega.{arith}
 use borrow.Author.Needs.{needs}
 use denote.Ref.{now}
-use lib.Seq.{length-take-le}
-use borrow.Author.Tests.{not-true, not-false, lt-ltb, le-ltb}
-use Rattle.storemap.specs.Store.{heldOf, dropOf}
-use Rattle.store.proofs.Sound.{found, remove-asked}
+use mathlib.Core.List.{List}
+use borrow.Author.Tests.{eq-eqb, ne-eqb}
+use Rattle.store_definition.specs.Store.{dropOf}
+use Rattle.store_definition.specs.Owners.{quotaOf, startFor, barred, dropFor}
+use Rattle.store.proofs.Fits.{fits, put-back}
 use Rattle.store.proofs.drop_tile.Statement.{statement}
 use Rattle.store.proofs.drop_tile.Tie as tie
 
-is-sound-requires : tie.Need-is-sound-requires
-is-sound-requires c κs = search needs
+bar-requires : tie.Need-bar-requires
+bar-requires c κs = search needs
 
 refused-requires : tie.Need-refused-requires
 refused-requires c κs = search needs
@@ -27,74 +29,121 @@ same-length-3 : tie.Need-same-length-3
 same-length-3 c = refl
 
 returns : tie.Need-returns
-unfolding dropOf
-returns c = rw (← c .before .before .is-sound .ensures, not-true (c .before .before .is-sound .result) (c .before .if1 .taken), c .refused .ensures)
+unfolding dropFor
+returns c = rw (← c .before .before .bar .ensures, ne-eqb (c .before .before .bar .result) 0 (c .before .if1 .taken), c .refused .ensures)
 
-slice-read-held : tie.Need-slice-read-held
-slice-read-held c = let f = found (c .before .before .before .before .before .before .before .before .before .args .entries) (now (c .before .before .before .before .before .before .before .before .before .args .list)) (now (c .before .before .before .before .before .before .before .before .before .args .tiles)) (now (c .before .before .before .before .before .before .before .before .before .args .bytes)) (c .before .before .is-sound .result) (c .before .before .is-sound .ensures) (c .before .if1 .left) in omega (arith, f .lists, f .tiled, f .few)
+mul-a : tie.Need-mul-a
+mul-a c = omega (arith, fits (c .before .before .before .before .before .before .before .before .args .owner) (now (c .before .before .before .before .before .before .before .before .args .list)) (now (c .before .before .before .before .before .before .before .before .args .tiles)) (now (c .before .before .before .before .before .before .before .before .args .bytes)) (c .before .bar .result) (c .before .bar .ensures) (c .if1 .left))
 
-slice-reshare-prefix-find : tie.Need-slice-reshare-prefix-find
-slice-reshare-prefix-find c = let f = found (c .before .before .before .before .before .before .before .before .before .args .entries) (now (c .before .before .before .before .before .before .before .before .before .args .list)) (now (c .before .before .before .before .before .before .before .before .before .args .tiles)) (now (c .before .before .before .before .before .before .before .before .before .args .bytes)) (c .before .before .is-sound .result) (c .before .before .is-sound .ensures) (c .before .if1 .left) in omega (arith, f .lists, f .tiled, f .few)
+add-a : tie.Need-add-a
+add-a c = omega (arith, fits (c .before .before .before .before .before .before .before .before .args .owner) (now (c .before .before .before .before .before .before .before .before .args .list)) (now (c .before .before .before .before .before .before .before .before .args .tiles)) (now (c .before .before .before .before .before .before .before .before .args .bytes)) (c .before .bar .result) (c .before .bar .ensures) (c .if1 .left))
 
-slice-aggregate-find : tie.Need-slice-aggregate-find
-slice-aggregate-find c = let f = found (c .before .before .before .before .before .before .before .before .before .before .args .entries) (now (c .before .before .before .before .before .before .before .before .before .before .args .list)) (now (c .before .before .before .before .before .before .before .before .before .before .args .tiles)) (now (c .before .before .before .before .before .before .before .before .before .before .args .bytes)) (c .before .before .before .is-sound .result) (c .before .before .before .is-sound .ensures) (c .before .before .if1 .left) in sym (length-take-le (heldOf (now (c .before .before .before .before .before .before .before .before .before .before .args .list))) (now (c .before .before .before .before .before .before .before .before .before .before .args .tiles)) (omega (arith, f .tiled, f .few)))
+add-e : tie.Need-add-e
+add-e c = omega (arith, fits (c .before .before .before .before .before .before .before .before .args .owner) (now (c .before .before .before .before .before .before .before .before .args .list)) (now (c .before .before .before .before .before .before .before .before .args .tiles)) (now (c .before .before .before .before .before .before .before .before .args .bytes)) (c .before .bar .result) (c .before .bar .ensures) (c .if1 .left))
 
-find-requires : tie.Need-find-requires
-find-requires c κs = search needs
+mul-b : tie.Need-mul-b
+mul-b c = omega (arith, fits (c .before .before .before .before .before .before .before .before .args .owner) (now (c .before .before .before .before .before .before .before .before .args .list)) (now (c .before .before .before .before .before .before .before .before .args .tiles)) (now (c .before .before .before .before .before .before .before .before .args .bytes)) (c .before .bar .result) (c .before .bar .ensures) (c .if1 .left))
 
-refused-requires-2 : tie.Need-refused-requires-2
-refused-requires-2 c κs = search needs
+add-f : tie.Need-add-f
+add-f c = omega (arith, fits (c .before .before .before .before .before .before .before .before .args .owner) (now (c .before .before .before .before .before .before .before .before .args .list)) (now (c .before .before .before .before .before .before .before .before .args .tiles)) (now (c .before .before .before .before .before .before .before .before .args .bytes)) (c .before .bar .result) (c .before .bar .ensures) (c .if1 .left))
+
+slice-read-at : tie.Need-slice-read-at
+slice-read-at c = omega (arith, fits (c .before .before .before .before .before .before .before .before .before .args .owner) (now (c .before .before .before .before .before .before .before .before .before .args .list)) (now (c .before .before .before .before .before .before .before .before .before .args .tiles)) (now (c .before .before .before .before .before .before .before .before .before .args .bytes)) (c .before .before .bar .result) (c .before .before .bar .ensures) (c .before .if1 .left))
+
+mul-at : tie.Need-mul-at
+mul-at c = omega (arith, fits (c .before .before .before .before .before .before .before .before .before .args .owner) (now (c .before .before .before .before .before .before .before .before .before .args .list)) (now (c .before .before .before .before .before .before .before .before .before .args .tiles)) (now (c .before .before .before .before .before .before .before .before .before .args .bytes)) (c .before .before .bar .result) (c .before .before .bar .ensures) (c .before .if1 .left))
+
+mul-end : tie.Need-mul-end
+mul-end c = omega (arith, fits (c .before .before .before .before .before .before .before .before .before .args .owner) (now (c .before .before .before .before .before .before .before .before .before .args .list)) (now (c .before .before .before .before .before .before .before .before .before .args .tiles)) (now (c .before .before .before .before .before .before .before .before .before .args .bytes)) (c .before .before .bar .result) (c .before .before .bar .ensures) (c .before .if1 .left))
+
+slice-read-end : tie.Need-slice-read-end
+slice-read-end c = omega (arith, fits (c .before .before .before .before .before .before .before .before .before .before .args .owner) (now (c .before .before .before .before .before .before .before .before .before .before .args .list)) (now (c .before .before .before .before .before .before .before .before .before .before .args .tiles)) (now (c .before .before .before .before .before .before .before .before .before .before .args .bytes)) (c .before .before .before .bar .result) (c .before .before .before .bar .ensures) (c .before .before .if1 .left))
+
+add-end : tie.Need-add-end
+add-end c = omega (arith, fits (c .before .before .before .before .before .before .before .before .before .before .args .owner) (now (c .before .before .before .before .before .before .before .before .before .before .args .list)) (now (c .before .before .before .before .before .before .before .before .before .before .args .tiles)) (now (c .before .before .before .before .before .before .before .before .before .before .args .bytes)) (c .before .before .before .bar .result) (c .before .before .before .bar .ensures) (c .before .before .if1 .left))
+
+mul-drop-tile : tie.Need-mul-drop-tile
+mul-drop-tile c = omega (arith, fits (c .before .before .before .before .before .before .before .before .before .before .args .owner) (now (c .before .before .before .before .before .before .before .before .before .before .args .list)) (now (c .before .before .before .before .before .before .before .before .before .before .args .tiles)) (now (c .before .before .before .before .before .before .before .before .before .before .args .bytes)) (c .before .before .before .bar .result) (c .before .before .before .bar .ensures) (c .before .before .if1 .left))
+
+sub-drop-tile : tie.Need-sub-drop-tile
+sub-drop-tile c = omega (arith, fits (c .before .before .before .before .before .before .before .before .before .before .args .owner) (now (c .before .before .before .before .before .before .before .before .before .before .args .list)) (now (c .before .before .before .before .before .before .before .before .before .before .args .tiles)) (now (c .before .before .before .before .before .before .before .before .before .before .args .bytes)) (c .before .before .before .bar .result) (c .before .before .before .bar .ensures) (c .before .before .if1 .left))
+
+part-drop-tile-start : tie.Need-part-drop-tile-start
+part-drop-tile-start c = omega (arith, fits (c .before .before .before .before .before .before .before .before .before .before .args .owner) (now (c .before .before .before .before .before .before .before .before .before .before .args .list)) (now (c .before .before .before .before .before .before .before .before .before .before .args .tiles)) (now (c .before .before .before .before .before .before .before .before .before .before .args .bytes)) (c .before .before .before .bar .result) (c .before .before .before .bar .ensures) (c .before .before .if1 .left))
+
+part-drop-tile-end : tie.Need-part-drop-tile-end
+part-drop-tile-end c = omega (arith, fits (c .before .before .before .before .before .before .before .before .before .before .args .owner) (now (c .before .before .before .before .before .before .before .before .before .before .args .list)) (now (c .before .before .before .before .before .before .before .before .before .before .args .tiles)) (now (c .before .before .before .before .before .before .before .before .before .before .args .bytes)) (c .before .before .before .bar .result) (c .before .before .before .bar .ensures) (c .before .before .if1 .left))
+
+mul-drop-tile-2 : tie.Need-mul-drop-tile-2
+mul-drop-tile-2 c = omega (arith, fits (c .before .before .before .before .before .before .before .before .before .before .before .args .owner) (now (c .before .before .before .before .before .before .before .before .before .before .before .args .list)) (now (c .before .before .before .before .before .before .before .before .before .before .before .args .tiles)) (now (c .before .before .before .before .before .before .before .before .before .before .before .args .bytes)) (c .before .before .before .before .bar .result) (c .before .before .before .before .bar .ensures) (c .before .before .before .if1 .left))
+
+sub-drop-tile-2 : tie.Need-sub-drop-tile-2
+sub-drop-tile-2 c = omega (arith, fits (c .before .before .before .before .before .before .before .before .before .before .before .args .owner) (now (c .before .before .before .before .before .before .before .before .before .before .before .args .list)) (now (c .before .before .before .before .before .before .before .before .before .before .before .args .tiles)) (now (c .before .before .before .before .before .before .before .before .before .before .before .args .bytes)) (c .before .before .before .before .bar .result) (c .before .before .before .before .bar .ensures) (c .before .before .before .if1 .left))
+
+part-drop-tile-start-2 : tie.Need-part-drop-tile-start-2
+part-drop-tile-start-2 c = omega (arith, fits (c .before .before .before .before .before .before .before .before .before .before .before .args .owner) (now (c .before .before .before .before .before .before .before .before .before .before .before .args .list)) (now (c .before .before .before .before .before .before .before .before .before .before .before .args .tiles)) (now (c .before .before .before .before .before .before .before .before .before .before .before .args .bytes)) (c .before .before .before .before .bar .result) (c .before .before .before .before .bar .ensures) (c .before .before .before .if1 .left))
+
+part-drop-tile-end-2 : tie.Need-part-drop-tile-end-2
+part-drop-tile-end-2 c = omega (arith, fits (c .before .before .before .before .before .before .before .before .before .before .before .args .owner) (now (c .before .before .before .before .before .before .before .before .before .before .before .args .list)) (now (c .before .before .before .before .before .before .before .before .before .before .before .args .tiles)) (now (c .before .before .before .before .before .before .before .before .before .before .before .args .bytes)) (c .before .before .before .before .bar .result) (c .before .before .before .before .bar .ensures) (c .before .before .before .if1 .left))
+
+sub-drop-tile-3 : tie.Need-sub-drop-tile-3
+sub-drop-tile-3 c = omega (arith, fits (c .before .before .before .before .before .before .before .before .before .before .before .before .args .owner) (now (c .before .before .before .before .before .before .before .before .before .before .before .before .args .list)) (now (c .before .before .before .before .before .before .before .before .before .before .before .before .args .tiles)) (now (c .before .before .before .before .before .before .before .before .before .before .before .before .args .bytes)) (c .before .before .before .before .before .bar .result) (c .before .before .before .before .before .bar .ensures) (c .before .before .before .before .if1 .left))
+
+part-drop-tile-start-3 : tie.Need-part-drop-tile-start-3
+part-drop-tile-start-3 c = omega (arith, fits (c .before .before .before .before .before .before .before .before .before .before .before .before .args .owner) (now (c .before .before .before .before .before .before .before .before .before .before .before .before .args .list)) (now (c .before .before .before .before .before .before .before .before .before .before .before .before .args .tiles)) (now (c .before .before .before .before .before .before .before .before .before .before .before .before .args .bytes)) (c .before .before .before .before .before .bar .result) (c .before .before .before .before .before .bar .ensures) (c .before .before .before .before .if1 .left))
+
+part-drop-tile-end-3 : tie.Need-part-drop-tile-end-3
+part-drop-tile-end-3 c = omega (arith, fits (c .before .before .before .before .before .before .before .before .before .before .before .before .args .owner) (now (c .before .before .before .before .before .before .before .before .before .before .before .before .args .list)) (now (c .before .before .before .before .before .before .before .before .before .before .before .before .args .tiles)) (now (c .before .before .before .before .before .before .before .before .before .before .before .before .args .bytes)) (c .before .before .before .before .before .bar .result) (c .before .before .before .before .before .bar .ensures) (c .before .before .before .before .if1 .left))
+
+drop-tile-requires : tie.Need-drop-tile-requires
+drop-tile-requires c κs = search needs
 
 same-length-4 : tie.Need-same-length-4
-same-length-4 c = refl
+same-length-4 c = c .before .before .before .before .before .list .given .1
 
 same-length-5 : tie.Need-same-length-5
-same-length-5 c = refl
+same-length-5 c = c .before .before .before .tiles .given .1
 
 same-length-6 : tie.Need-same-length-6
-same-length-6 c = refl
+same-length-6 c = c .before .bytes .given .1
 
 returns-2 : tie.Need-returns-2
-unfolding dropOf
-returns-2 c = rw (← c .before .before .before .before .before .before .is-sound .ensures, not-false (c .before .before .before .before .before .before .is-sound .result) (c .before .before .before .before .before .if1 .left), ← c .before .before .find .ensures, le-ltb (c .before .before .find .result) (heldOf (now (c .before .before .before .before .before .before .before .before .before .before .before .before .before .args .list))) (c .before .if2 .taken), c .refused2 .ensures)
-
-remove-requires : tie.Need-remove-requires
-remove-requires c κs = remove-asked (c .before .before .before .before .before .before .before .before .before .before .before .before .before .before .before .args .entries) (now (c .before .before .before .before .before .before .before .before .before .before .before .before .before .before .before .args .list)) (now (c .before .before .before .before .before .before .before .before .before .before .before .before .before .before .before .args .tiles)) (now (c .before .before .before .before .before .before .before .before .before .before .before .before .before .before .before .args .bytes)) (c .before .before .before .before .before .before .before .before .is-sound .result) (c .before .before .before .before .before .before .before .before .is-sound .ensures) (c .before .before .before .before .before .before .before .if1 .left) (c .before .before .before .before .find .result) (c .before .before .before .if2 .left)
-
-same-length-7 : tie.Need-same-length-7
-same-length-7 c = c .before .before .before .before .before .before .remove .kept .0
-
-same-length-8 : tie.Need-same-length-8
-same-length-8 c = c .before .before .before .before .before .before .remove .kept .1 .0
-
-same-length-9 : tie.Need-same-length-9
-same-length-9 c = c .before .before .before .before .before .before .remove .kept .1 .1 .0
-
-returns-3 : tie.Need-returns-3
-unfolding dropOf
-returns-3 c = c .before .before .before .before .before .before .remove .ensures ∙ rw (← c .before .before .before .before .before .before .before .before .before .before .before .before .before .before .before .is-sound .ensures, not-false (c .before .before .before .before .before .before .before .before .before .before .before .before .before .before .before .is-sound .result) (c .before .before .before .before .before .before .before .before .before .before .before .before .before .before .if1 .left), ← c .before .before .before .before .before .before .before .before .before .before .before .find .ensures, lt-ltb (c .before .before .before .before .before .before .before .before .before .before .before .find .result) (heldOf (now (c .before .before .before .before .before .before .before .before .before .before .before .before .before .before .before .before .before .before .before .before .before .before .args .list))) (c .before .before .before .before .before .before .before .before .before .before .if2 .left))
+unfolding dropFor
+returns-2 c = rw (← c .before .before .before .before .before .before .before .before .before .before .before .before .before .bar .ensures, eq-eqb (c .before .before .before .before .before .before .before .before .before .before .before .before .before .bar .result) 0 (c .before .before .before .before .before .before .before .before .before .before .before .before .if1 .left)) (put-back (λ (l t b : List ℕ). dropOf 32 l t b (c .before .before .before .before .before .before .before .before .before .before .before .before .before .before .before .before .before .before .before .before .args .tile)) (now (c .before .before .before .before .before .before .before .before .before .before .before .before .before .before .before .before .before .before .before .before .args .list)) (now (c .before .before .before .before .before .before .before .before .before .before .before .before .before .before .before .before .before .before .before .before .args .tiles)) (now (c .before .before .before .before .before .before .before .before .before .before .before .before .before .before .before .before .before .before .before .before .args .bytes)) (1 + (c .before .before .before .before .before .before .before .before .before .before .before .before .before .before .before .before .before .before .before .before .args .owner) * 34) ((c .before .before .before .before .before .before .before .before .before .before .before .before .before .before .before .before .before .before .before .before .args .owner) * 32) (startFor (c .before .before .before .before .before .before .before .before .before .before .before .before .before .before .before .before .before .before .before .before .args .owner) (now (c .before .before .before .before .before .before .before .before .before .before .before .before .before .before .before .before .before .before .before .before .args .list))) (quotaOf (c .before .before .before .before .before .before .before .before .before .before .before .before .before .before .before .before .before .before .before .before .args .owner) (now (c .before .before .before .before .before .before .before .before .before .before .before .before .before .before .before .before .before .before .before .before .args .list))) _ (c .before .before .before .before .before .before .drop-tile .ensures))
 
 pub drop-tile-spec : {M : Type 1} → statement M
 drop-tile-spec =
     tie.close
     (tie.spec
-    is-sound-requires
+    bar-requires
     refused-requires
     same-length
     same-length-2
     same-length-3
     returns
-    slice-read-held
-    slice-reshare-prefix-find
-    slice-aggregate-find
-    find-requires
-    refused-requires-2
+    mul-a
+    add-a
+    add-e
+    mul-b
+    add-f
+    slice-read-at
+    mul-at
+    mul-end
+    slice-read-end
+    add-end
+    mul-drop-tile
+    sub-drop-tile
+    part-drop-tile-start
+    part-drop-tile-end
+    mul-drop-tile-2
+    sub-drop-tile-2
+    part-drop-tile-start-2
+    part-drop-tile-end-2
+    sub-drop-tile-3
+    part-drop-tile-start-3
+    part-drop-tile-end-3
+    drop-tile-requires
     same-length-4
     same-length-5
     same-length-6
-    returns-2
-    remove-requires
-    same-length-7
-    same-length-8
-    same-length-9
-    returns-3)
+    returns-2)

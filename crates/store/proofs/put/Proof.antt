@@ -1,18 +1,20 @@
 -- Generated from the answers file beside it by tools/prove/prove.py: edit that.
 -- `store::put` meets its contract.
-use mathlib.Core.Path.{refl, sym}
+use mathlib.Core.Path.{refl}
+use Prim.Native.Nat.{ℕ, _+_, _*_}
 use native.Mathlib.Omega.{arith}
 use borrow.Author.Needs.{needs}
 use denote.Ref.{now}
-use lib.Seq.{length-take-le}
-use borrow.Author.Tests.{not-true, not-false, lt-ltb, le-ltb, le-leb}
-use Rattle.storemap.specs.Store.{heldOf, putOf}
-use Rattle.store.proofs.Sound.{found, start-asked, used-fits, add-asked, put-added, put-over}
+use mathlib.Core.List.{List}
+use borrow.Author.Tests.{eq-eqb, ne-eqb}
+use Rattle.store_definition.specs.Store.{putOf}
+use Rattle.store_definition.specs.Owners.{quotaOf, startFor, barred, putFor}
+use Rattle.store.proofs.Fits.{fits, put-back}
 use Rattle.store.proofs.put.Statement.{statement}
 use Rattle.store.proofs.put.Tie as tie
 
-is-sound-requires : tie.Need-is-sound-requires
-is-sound-requires c κs = search needs
+bar-requires : tie.Need-bar-requires
+bar-requires c κs = search needs
 
 refused-requires : tie.Need-refused-requires
 refused-requires c κs = search needs
@@ -27,122 +29,121 @@ same-length-3 : tie.Need-same-length-3
 same-length-3 c = refl
 
 returns : tie.Need-returns
-unfolding putOf
-returns c = rw (← c .before .before .is-sound .ensures, not-true (c .before .before .is-sound .result) (c .before .if1 .taken), c .refused .ensures)
+unfolding putFor
+returns c = rw (← c .before .before .bar .ensures, ne-eqb (c .before .before .bar .result) 0 (c .before .if1 .taken), c .refused .ensures)
 
-slice-read-held : tie.Need-slice-read-held
-slice-read-held c = let f = found (c .before .before .before .before .before .before .before .before .before .before .args .entries) (now (c .before .before .before .before .before .before .before .before .before .before .args .list)) (now (c .before .before .before .before .before .before .before .before .before .before .args .tiles)) (now (c .before .before .before .before .before .before .before .before .before .before .args .bytes)) (c .before .before .is-sound .result) (c .before .before .is-sound .ensures) (c .before .if1 .left) in omega (arith, f .lists, f .tiled, f .few)
+mul-a : tie.Need-mul-a
+mul-a c = omega (arith, fits (c .before .before .before .before .before .before .before .before .before .args .owner) (now (c .before .before .before .before .before .before .before .before .before .args .list)) (now (c .before .before .before .before .before .before .before .before .before .args .tiles)) (now (c .before .before .before .before .before .before .before .before .before .args .bytes)) (c .before .bar .result) (c .before .bar .ensures) (c .if1 .left))
 
-slice-reshare-prefix-find : tie.Need-slice-reshare-prefix-find
-slice-reshare-prefix-find c = let f = found (c .before .before .before .before .before .before .before .before .before .before .args .entries) (now (c .before .before .before .before .before .before .before .before .before .before .args .list)) (now (c .before .before .before .before .before .before .before .before .before .before .args .tiles)) (now (c .before .before .before .before .before .before .before .before .before .before .args .bytes)) (c .before .before .is-sound .result) (c .before .before .is-sound .ensures) (c .before .if1 .left) in omega (arith, f .lists, f .tiled, f .few)
+add-a : tie.Need-add-a
+add-a c = omega (arith, fits (c .before .before .before .before .before .before .before .before .before .args .owner) (now (c .before .before .before .before .before .before .before .before .before .args .list)) (now (c .before .before .before .before .before .before .before .before .before .args .tiles)) (now (c .before .before .before .before .before .before .before .before .before .args .bytes)) (c .before .bar .result) (c .before .bar .ensures) (c .if1 .left))
 
-slice-aggregate-find : tie.Need-slice-aggregate-find
-slice-aggregate-find c = let f = found (c .before .before .before .before .before .before .before .before .before .before .before .args .entries) (now (c .before .before .before .before .before .before .before .before .before .before .before .args .list)) (now (c .before .before .before .before .before .before .before .before .before .before .before .args .tiles)) (now (c .before .before .before .before .before .before .before .before .before .before .before .args .bytes)) (c .before .before .before .is-sound .result) (c .before .before .before .is-sound .ensures) (c .before .before .if1 .left) in sym (length-take-le (heldOf (now (c .before .before .before .before .before .before .before .before .before .before .before .args .list))) (now (c .before .before .before .before .before .before .before .before .before .before .before .args .tiles)) (omega (arith, f .tiled, f .few)))
+add-e : tie.Need-add-e
+add-e c = omega (arith, fits (c .before .before .before .before .before .before .before .before .before .args .owner) (now (c .before .before .before .before .before .before .before .before .before .args .list)) (now (c .before .before .before .before .before .before .before .before .before .args .tiles)) (now (c .before .before .before .before .before .before .before .before .before .args .bytes)) (c .before .bar .result) (c .before .bar .ensures) (c .if1 .left))
 
-find-requires : tie.Need-find-requires
-find-requires c κs = search needs
+mul-b : tie.Need-mul-b
+mul-b c = omega (arith, fits (c .before .before .before .before .before .before .before .before .before .args .owner) (now (c .before .before .before .before .before .before .before .before .before .args .list)) (now (c .before .before .before .before .before .before .before .before .before .args .tiles)) (now (c .before .before .before .before .before .before .before .before .before .args .bytes)) (c .before .bar .result) (c .before .bar .ensures) (c .if1 .left))
 
-refused-requires-2 : tie.Need-refused-requires-2
-refused-requires-2 c κs = search needs
+add-f : tie.Need-add-f
+add-f c = omega (arith, fits (c .before .before .before .before .before .before .before .before .before .args .owner) (now (c .before .before .before .before .before .before .before .before .before .args .list)) (now (c .before .before .before .before .before .before .before .before .before .args .tiles)) (now (c .before .before .before .before .before .before .before .before .before .args .bytes)) (c .before .bar .result) (c .before .bar .ensures) (c .if1 .left))
+
+slice-read-at : tie.Need-slice-read-at
+slice-read-at c = omega (arith, fits (c .before .before .before .before .before .before .before .before .before .before .args .owner) (now (c .before .before .before .before .before .before .before .before .before .before .args .list)) (now (c .before .before .before .before .before .before .before .before .before .before .args .tiles)) (now (c .before .before .before .before .before .before .before .before .before .before .args .bytes)) (c .before .before .bar .result) (c .before .before .bar .ensures) (c .before .if1 .left))
+
+mul-at : tie.Need-mul-at
+mul-at c = omega (arith, fits (c .before .before .before .before .before .before .before .before .before .before .args .owner) (now (c .before .before .before .before .before .before .before .before .before .before .args .list)) (now (c .before .before .before .before .before .before .before .before .before .before .args .tiles)) (now (c .before .before .before .before .before .before .before .before .before .before .args .bytes)) (c .before .before .bar .result) (c .before .before .bar .ensures) (c .before .if1 .left))
+
+mul-end : tie.Need-mul-end
+mul-end c = omega (arith, fits (c .before .before .before .before .before .before .before .before .before .before .args .owner) (now (c .before .before .before .before .before .before .before .before .before .before .args .list)) (now (c .before .before .before .before .before .before .before .before .before .before .args .tiles)) (now (c .before .before .before .before .before .before .before .before .before .before .args .bytes)) (c .before .before .bar .result) (c .before .before .bar .ensures) (c .before .if1 .left))
+
+slice-read-end : tie.Need-slice-read-end
+slice-read-end c = omega (arith, fits (c .before .before .before .before .before .before .before .before .before .before .before .args .owner) (now (c .before .before .before .before .before .before .before .before .before .before .before .args .list)) (now (c .before .before .before .before .before .before .before .before .before .before .before .args .tiles)) (now (c .before .before .before .before .before .before .before .before .before .before .before .args .bytes)) (c .before .before .before .bar .result) (c .before .before .before .bar .ensures) (c .before .before .if1 .left))
+
+add-end : tie.Need-add-end
+add-end c = omega (arith, fits (c .before .before .before .before .before .before .before .before .before .before .before .args .owner) (now (c .before .before .before .before .before .before .before .before .before .before .before .args .list)) (now (c .before .before .before .before .before .before .before .before .before .before .before .args .tiles)) (now (c .before .before .before .before .before .before .before .before .before .before .before .args .bytes)) (c .before .before .before .bar .result) (c .before .before .before .bar .ensures) (c .before .before .if1 .left))
+
+mul-put : tie.Need-mul-put
+mul-put c = omega (arith, fits (c .before .before .before .before .before .before .before .before .before .before .before .args .owner) (now (c .before .before .before .before .before .before .before .before .before .before .before .args .list)) (now (c .before .before .before .before .before .before .before .before .before .before .before .args .tiles)) (now (c .before .before .before .before .before .before .before .before .before .before .before .args .bytes)) (c .before .before .before .bar .result) (c .before .before .before .bar .ensures) (c .before .before .if1 .left))
+
+sub-put : tie.Need-sub-put
+sub-put c = omega (arith, fits (c .before .before .before .before .before .before .before .before .before .before .before .args .owner) (now (c .before .before .before .before .before .before .before .before .before .before .before .args .list)) (now (c .before .before .before .before .before .before .before .before .before .before .before .args .tiles)) (now (c .before .before .before .before .before .before .before .before .before .before .before .args .bytes)) (c .before .before .before .bar .result) (c .before .before .before .bar .ensures) (c .before .before .if1 .left))
+
+part-put-start : tie.Need-part-put-start
+part-put-start c = omega (arith, fits (c .before .before .before .before .before .before .before .before .before .before .before .args .owner) (now (c .before .before .before .before .before .before .before .before .before .before .before .args .list)) (now (c .before .before .before .before .before .before .before .before .before .before .before .args .tiles)) (now (c .before .before .before .before .before .before .before .before .before .before .before .args .bytes)) (c .before .before .before .bar .result) (c .before .before .before .bar .ensures) (c .before .before .if1 .left))
+
+part-put-end : tie.Need-part-put-end
+part-put-end c = omega (arith, fits (c .before .before .before .before .before .before .before .before .before .before .before .args .owner) (now (c .before .before .before .before .before .before .before .before .before .before .before .args .list)) (now (c .before .before .before .before .before .before .before .before .before .before .before .args .tiles)) (now (c .before .before .before .before .before .before .before .before .before .before .before .args .bytes)) (c .before .before .before .bar .result) (c .before .before .before .bar .ensures) (c .before .before .if1 .left))
+
+mul-put-2 : tie.Need-mul-put-2
+mul-put-2 c = omega (arith, fits (c .before .before .before .before .before .before .before .before .before .before .before .before .args .owner) (now (c .before .before .before .before .before .before .before .before .before .before .before .before .args .list)) (now (c .before .before .before .before .before .before .before .before .before .before .before .before .args .tiles)) (now (c .before .before .before .before .before .before .before .before .before .before .before .before .args .bytes)) (c .before .before .before .before .bar .result) (c .before .before .before .before .bar .ensures) (c .before .before .before .if1 .left))
+
+sub-put-2 : tie.Need-sub-put-2
+sub-put-2 c = omega (arith, fits (c .before .before .before .before .before .before .before .before .before .before .before .before .args .owner) (now (c .before .before .before .before .before .before .before .before .before .before .before .before .args .list)) (now (c .before .before .before .before .before .before .before .before .before .before .before .before .args .tiles)) (now (c .before .before .before .before .before .before .before .before .before .before .before .before .args .bytes)) (c .before .before .before .before .bar .result) (c .before .before .before .before .bar .ensures) (c .before .before .before .if1 .left))
+
+part-put-start-2 : tie.Need-part-put-start-2
+part-put-start-2 c = omega (arith, fits (c .before .before .before .before .before .before .before .before .before .before .before .before .args .owner) (now (c .before .before .before .before .before .before .before .before .before .before .before .before .args .list)) (now (c .before .before .before .before .before .before .before .before .before .before .before .before .args .tiles)) (now (c .before .before .before .before .before .before .before .before .before .before .before .before .args .bytes)) (c .before .before .before .before .bar .result) (c .before .before .before .before .bar .ensures) (c .before .before .before .if1 .left))
+
+part-put-end-2 : tie.Need-part-put-end-2
+part-put-end-2 c = omega (arith, fits (c .before .before .before .before .before .before .before .before .before .before .before .before .args .owner) (now (c .before .before .before .before .before .before .before .before .before .before .before .before .args .list)) (now (c .before .before .before .before .before .before .before .before .before .before .before .before .args .tiles)) (now (c .before .before .before .before .before .before .before .before .before .before .before .before .args .bytes)) (c .before .before .before .before .bar .result) (c .before .before .before .before .bar .ensures) (c .before .before .before .if1 .left))
+
+sub-put-3 : tie.Need-sub-put-3
+sub-put-3 c = omega (arith, fits (c .before .before .before .before .before .before .before .before .before .before .before .before .before .args .owner) (now (c .before .before .before .before .before .before .before .before .before .before .before .before .before .args .list)) (now (c .before .before .before .before .before .before .before .before .before .before .before .before .before .args .tiles)) (now (c .before .before .before .before .before .before .before .before .before .before .before .before .before .args .bytes)) (c .before .before .before .before .before .bar .result) (c .before .before .before .before .before .bar .ensures) (c .before .before .before .before .if1 .left))
+
+part-put-start-3 : tie.Need-part-put-start-3
+part-put-start-3 c = omega (arith, fits (c .before .before .before .before .before .before .before .before .before .before .before .before .before .args .owner) (now (c .before .before .before .before .before .before .before .before .before .before .before .before .before .args .list)) (now (c .before .before .before .before .before .before .before .before .before .before .before .before .before .args .tiles)) (now (c .before .before .before .before .before .before .before .before .before .before .before .before .before .args .bytes)) (c .before .before .before .before .before .bar .result) (c .before .before .before .before .before .bar .ensures) (c .before .before .before .before .if1 .left))
+
+part-put-end-3 : tie.Need-part-put-end-3
+part-put-end-3 c = omega (arith, fits (c .before .before .before .before .before .before .before .before .before .before .before .before .before .args .owner) (now (c .before .before .before .before .before .before .before .before .before .before .before .before .before .args .list)) (now (c .before .before .before .before .before .before .before .before .before .before .before .before .before .args .tiles)) (now (c .before .before .before .before .before .before .before .before .before .before .before .before .before .args .bytes)) (c .before .before .before .before .before .bar .result) (c .before .before .before .before .before .bar .ensures) (c .before .before .before .before .if1 .left))
+
+put-requires : tie.Need-put-requires
+put-requires c κs = search needs
 
 same-length-4 : tie.Need-same-length-4
-same-length-4 c = refl
+same-length-4 c = c .before .before .before .before .before .list .given .1
 
 same-length-5 : tie.Need-same-length-5
-same-length-5 c = refl
+same-length-5 c = c .before .before .before .tiles .given .1
 
 same-length-6 : tie.Need-same-length-6
-same-length-6 c = refl
+same-length-6 c = c .before .bytes .given .1
 
 returns-2 : tie.Need-returns-2
-unfolding putOf
-returns-2 c = rw (← c .before .before .before .before .before .before .is-sound .ensures, not-false (c .before .before .before .before .before .before .is-sound .result) (c .before .before .before .before .before .if1 .left), ← c .before .before .find .ensures, lt-ltb (c .before .before .find .result) (heldOf (now (c .before .before .before .before .before .before .before .before .before .before .before .before .before .before .args .list))) (c .before .if2 .taken), c .refused2 .ensures)
-
-refused-requires-3 : tie.Need-refused-requires-3
-refused-requires-3 c κs = search needs
-
-same-length-7 : tie.Need-same-length-7
-same-length-7 c = refl
-
-same-length-8 : tie.Need-same-length-8
-same-length-8 c = refl
-
-same-length-9 : tie.Need-same-length-9
-same-length-9 c = refl
-
-returns-3 : tie.Need-returns-3
-unfolding putOf
-returns-3 c = rw (← c .before .before .before .before .before .before .before .is-sound .ensures, not-false (c .before .before .before .before .before .before .before .is-sound .result) (c .before .before .before .before .before .before .if1 .left), ← c .before .before .before .find .ensures, le-ltb (c .before .before .before .find .result) (heldOf (now (c .before .before .before .before .before .before .before .before .before .before .before .before .before .before .before .args .list))) (c .before .before .if2 .left), le-leb (c .before .before .before .before .before .before .before .before .before .before .before .before .before .before .before .args .entries) (heldOf (now (c .before .before .before .before .before .before .before .before .before .before .before .before .before .before .before .args .list))) (c .before .if3 .taken), c .refused3 .ensures)
-
-start-of-requires : tie.Need-start-of-requires
-start-of-requires c κs = start-asked (c .before .before .before .before .before .before .before .before .before .before .before .before .before .before .before .args .entries) (now (c .before .before .before .before .before .before .before .before .before .before .before .before .before .before .before .args .list)) (now (c .before .before .before .before .before .before .before .before .before .before .before .before .before .before .before .args .tiles)) (now (c .before .before .before .before .before .before .before .before .before .before .before .before .before .before .before .args .bytes)) (c .before .before .before .before .before .before .before .is-sound .result) (c .before .before .before .before .before .before .before .is-sound .ensures) (c .before .before .before .before .before .before .if1 .left)
-
-sub-if4 : tie.Need-sub-if4
-sub-if4 c = used-fits (c .before .before .before .before .before .before .before .before .before .before .before .before .before .before .before .before .args .entries) (now (c .before .before .before .before .before .before .before .before .before .before .before .before .before .before .before .before .args .list)) (now (c .before .before .before .before .before .before .before .before .before .before .before .before .before .before .before .before .args .tiles)) (now (c .before .before .before .before .before .before .before .before .before .before .before .before .before .before .before .before .args .bytes)) (c .before .before .before .before .before .before .before .before .is-sound .result) (c .before .before .before .before .before .before .before .before .is-sound .ensures) (c .before .before .before .before .before .before .before .if1 .left) (c .start-of .result) (c .start-of .ensures)
-
-refused-requires-4 : tie.Need-refused-requires-4
-refused-requires-4 c κs = search needs
-
-same-length-10 : tie.Need-same-length-10
-same-length-10 c = refl
-
-same-length-11 : tie.Need-same-length-11
-same-length-11 c = refl
-
-same-length-12 : tie.Need-same-length-12
-same-length-12 c = refl
-
-returns-4 : tie.Need-returns-4
-returns-4 c = rw (c .refused4 .ensures) (put-over (c .before .before .before .before .before .before .before .before .before .before .before .before .before .before .before .before .before .before .args .entries) (now (c .before .before .before .before .before .before .before .before .before .before .before .before .before .before .before .before .before .before .args .list)) (now (c .before .before .before .before .before .before .before .before .before .before .before .before .before .before .before .before .before .before .args .tiles)) (now (c .before .before .before .before .before .before .before .before .before .before .before .before .before .before .before .before .before .before .args .bytes)) (c .before .before .before .before .before .before .before .before .before .before .is-sound .result) (c .before .before .before .before .before .before .before .before .before .before .is-sound .ensures) (c .before .before .before .before .before .before .before .before .before .if1 .left) (c .before .before .start-of .result) (c .before .before .start-of .ensures) (now (c .before .before .before .before .before .before .before .before .before .before .before .before .before .before .before .before .before .before .args .block)) (c .before .before .before .before .if3 .left) (c .before .if4 .taken) (c .before .before .before .before .before .before .before .before .before .before .before .before .before .before .before .before .before .before .args .tile) (c .before .before .before .before .before .before .find .result) (c .before .before .before .before .before .before .find .ensures) (c .before .before .before .before .before .if2 .left))
-
-add-requires : tie.Need-add-requires
-add-requires c κs = add-asked (c .before .before .before .before .before .before .before .before .before .before .before .before .before .before .before .before .before .before .before .before .args .entries) (now (c .before .before .before .before .before .before .before .before .before .before .before .before .before .before .before .before .before .before .before .before .args .list)) (now (c .before .before .before .before .before .before .before .before .before .before .before .before .before .before .before .before .before .before .before .before .args .tiles)) (now (c .before .before .before .before .before .before .before .before .before .before .before .before .before .before .before .before .before .before .before .before .args .bytes)) (c .before .before .before .before .before .before .before .before .before .before .before .before .is-sound .result) (c .before .before .before .before .before .before .before .before .before .before .before .before .is-sound .ensures) (c .before .before .before .before .before .before .before .before .before .before .before .if1 .left) (c .before .before .before .before .start-of .result) (c .before .before .before .before .start-of .ensures) (now (c .before .before .before .before .before .before .before .before .before .before .before .before .before .before .before .before .before .before .before .before .args .block)) (c .before .before .before .before .before .before .if3 .left) (c .before .before .before .if4 .left)
-
-same-length-13 : tie.Need-same-length-13
-same-length-13 c = c .before .before .before .before .before .before .add .kept .0
-
-same-length-14 : tie.Need-same-length-14
-same-length-14 c = c .before .before .before .before .before .before .add .kept .1 .0
-
-same-length-15 : tie.Need-same-length-15
-same-length-15 c = c .before .before .before .before .before .before .add .kept .1 .1 .0
-
-returns-5 : tie.Need-returns-5
-returns-5 c = put-added (c .before .before .before .before .before .before .before .before .before .before .before .before .before .before .before .before .before .before .before .before .before .before .before .before .before .before .before .args .entries) (now (c .before .before .before .before .before .before .before .before .before .before .before .before .before .before .before .before .before .before .before .before .before .before .before .before .before .before .before .args .list)) (now (c .before .before .before .before .before .before .before .before .before .before .before .before .before .before .before .before .before .before .before .before .before .before .before .before .before .before .before .args .tiles)) (now (c .before .before .before .before .before .before .before .before .before .before .before .before .before .before .before .before .before .before .before .before .before .before .before .before .before .before .before .args .bytes)) (c .before .before .before .before .before .before .before .before .before .before .before .before .before .before .before .before .before .before .before .is-sound .result) (c .before .before .before .before .before .before .before .before .before .before .before .before .before .before .before .before .before .before .before .is-sound .ensures) (c .before .before .before .before .before .before .before .before .before .before .before .before .before .before .before .before .before .before .if1 .left) (c .before .before .before .before .before .before .before .before .before .before .before .start-of .result) (c .before .before .before .before .before .before .before .before .before .before .before .start-of .ensures) (now (c .before .before .before .before .before .before .before .before .before .before .before .before .before .before .before .before .before .before .before .before .before .before .before .before .before .before .before .args .block)) (c .before .before .before .before .before .before .before .before .before .before .before .before .before .if3 .left) (c .before .before .before .before .before .before .before .before .before .before .if4 .left) (c .before .before .before .before .before .before .before .before .before .before .before .before .before .before .before .before .before .before .before .before .before .before .before .before .before .before .before .args .tile) (c .before .before .before .before .before .before .before .before .before .before .before .before .before .before .before .find .result) (c .before .before .before .before .before .before .before .before .before .before .before .before .before .before .before .find .ensures) (c .before .before .before .before .before .before .before .before .before .before .before .before .before .before .if2 .left) (c .before .before .before .before .before .before .add .result, c .before .before .before .before .before .before .add .last .0, c .before .before .before .before .before .before .add .last .1 .0, c .before .before .before .before .before .before .add .last .1 .1 .0) (c .before .before .before .before .before .before .add .ensures)
+unfolding putFor
+returns-2 c = rw (← c .before .before .before .before .before .before .before .before .before .before .before .before .before .bar .ensures, eq-eqb (c .before .before .before .before .before .before .before .before .before .before .before .before .before .bar .result) 0 (c .before .before .before .before .before .before .before .before .before .before .before .before .if1 .left)) (put-back (λ (l t b : List ℕ). putOf 32 l t b (c .before .before .before .before .before .before .before .before .before .before .before .before .before .before .before .before .before .before .before .before .before .args .tile) (now (c .before .before .before .before .before .before .before .before .before .before .before .before .before .before .before .before .before .before .before .before .before .args .block))) (now (c .before .before .before .before .before .before .before .before .before .before .before .before .before .before .before .before .before .before .before .before .before .args .list)) (now (c .before .before .before .before .before .before .before .before .before .before .before .before .before .before .before .before .before .before .before .before .before .args .tiles)) (now (c .before .before .before .before .before .before .before .before .before .before .before .before .before .before .before .before .before .before .before .before .before .args .bytes)) (1 + (c .before .before .before .before .before .before .before .before .before .before .before .before .before .before .before .before .before .before .before .before .before .args .owner) * 34) ((c .before .before .before .before .before .before .before .before .before .before .before .before .before .before .before .before .before .before .before .before .before .args .owner) * 32) (startFor (c .before .before .before .before .before .before .before .before .before .before .before .before .before .before .before .before .before .before .before .before .before .args .owner) (now (c .before .before .before .before .before .before .before .before .before .before .before .before .before .before .before .before .before .before .before .before .before .args .list))) (quotaOf (c .before .before .before .before .before .before .before .before .before .before .before .before .before .before .before .before .before .before .before .before .before .args .owner) (now (c .before .before .before .before .before .before .before .before .before .before .before .before .before .before .before .before .before .before .before .before .before .args .list))) _ (c .before .before .before .before .before .before .put .ensures))
 
 pub put-spec : {M : Type 1} → statement M
 put-spec =
     tie.close
     (tie.spec
-    is-sound-requires
+    bar-requires
     refused-requires
     same-length
     same-length-2
     same-length-3
     returns
-    slice-read-held
-    slice-reshare-prefix-find
-    slice-aggregate-find
-    find-requires
-    refused-requires-2
+    mul-a
+    add-a
+    add-e
+    mul-b
+    add-f
+    slice-read-at
+    mul-at
+    mul-end
+    slice-read-end
+    add-end
+    mul-put
+    sub-put
+    part-put-start
+    part-put-end
+    mul-put-2
+    sub-put-2
+    part-put-start-2
+    part-put-end-2
+    sub-put-3
+    part-put-start-3
+    part-put-end-3
+    put-requires
     same-length-4
     same-length-5
     same-length-6
-    returns-2
-    refused-requires-3
-    same-length-7
-    same-length-8
-    same-length-9
-    returns-3
-    start-of-requires
-    sub-if4
-    refused-requires-4
-    same-length-10
-    same-length-11
-    same-length-12
-    returns-4
-    add-requires
-    same-length-13
-    same-length-14
-    same-length-15
-    returns-5)
+    returns-2)

@@ -6,7 +6,7 @@ use native.Mathlib.Omega.{arith}
 use lib.ListN.{length}
 use Rattle.grid.specs.Loop.{upto}
 use Rattle.grid.specs.LoopLaws.{start, next, done}
-use Rattle.sweep.specs.Kept.{Sized}
+use Rattle.svd_jacobi_svd_tall.specs.SweepLengths.{Sized}
 use native.Mathlib.Nat.{mul-comm}
 use Rattle.grid.specs.TableLaws.{row-end}
 use Rattle.svd.specs.Svd.{columnLoaded, matrixLoaded}

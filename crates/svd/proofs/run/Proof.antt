@@ -8,11 +8,11 @@ use lib.ListN.{length}
 use denote.Ref.{now}
 use Rattle.grid.specs.Real.{Vec, zeros}
 use Rattle.answers.specs.Answers.{least}
-use Rattle.sweep.specs.Kept.{Sized}
-use Rattle.sorted.specs.Result.{longest}
+use Rattle.svd_jacobi_svd_tall.specs.SweepLengths.{Sized}
+use Rattle.svd_sort_svd_descending.specs.Result.{longest}
 use Rattle.svd.specs.Svd.{loaded, ran}
-use Rattle.sorted.specs.Known.{Checked}
-use Rattle.svd.specs.Known.{sized}
+use Rattle.svd_sort_svd_descending.specs.ResultSizes.{Checked}
+use Rattle.svd.specs.Sizes.{sized}
 use Rattle.svd.proofs.run.Statement.{statement}
 use Rattle.svd.proofs.run.Tie as tie
 

@@ -3,7 +3,7 @@
 use native.Mathlib.Omega.{arith}
 use borrow.Author.Tests.{lt-ltb, le-ltb}
 use Rattle.svd.specs.Svd.{source}
-use Rattle.sorted.specs.Known.{wide-longest, wide-least, tall-longest, tall-least}
+use Rattle.svd_sort_svd_descending.specs.ResultSizes.{wide-longest, wide-least, tall-longest, tall-least}
 use Rattle.svd.proofs.source.Statement.{statement}
 use Rattle.svd.proofs.source.Tie as tie
 

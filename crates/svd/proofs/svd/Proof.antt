@@ -8,7 +8,7 @@ use denote.Ref.{now}
 use Rattle.answers.specs.declared.Answer.{Answer}
 use borrow.Author.Tests.{eq-eqb, ne-eqb}
 use Rattle.svd.specs.Svd.{svd}
-use Rattle.svd.specs.Known.{checks-passed}
+use Rattle.svd.specs.Sizes.{checks-passed}
 use Rattle.svd.proofs.svd.Statement.{statement}
 use Rattle.svd.proofs.svd.Tie as tie
 

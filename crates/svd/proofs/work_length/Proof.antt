@@ -6,8 +6,8 @@ use native.Mathlib.Omega.{arith}
 use borrow.Author.Needs.{needs}
 use Rattle.answers.specs.Answers.{least}
 use Rattle.answers.specs.AnswersLaws.{least-le, product-le}
-use Rattle.sorted.specs.Result.{longest, workLength}
-use Rattle.sorted.specs.Known.{longest-le}
+use Rattle.svd_sort_svd_descending.specs.Result.{longest, workLength}
+use Rattle.svd_sort_svd_descending.specs.ResultSizes.{longest-le}
 use Rattle.svd.proofs.work_length.Statement.{statement}
 use Rattle.svd.proofs.work_length.Tie as tie
 

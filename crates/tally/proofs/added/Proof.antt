@@ -4,10 +4,10 @@ use mathlib.Core.Path.{_≡_, _∙_, sym}
 use Prim.Native.Nat.{ℕ}
 use native.Mathlib.Omega.{arith}
 use borrow.Author.Needs.{needs}
-use Rattle.figures.specs.Tallies.{refusal}
-use Rattle.figures.specs.TallyLaws.{Taken, taken}
+use Rattle.tally_definition.specs.Tallies.{refusal}
+use Rattle.tally_definition.specs.TallyLaws.{Taken, taken}
 use Rattle.tally.specs.OutcomeLaws.{count-small, refused, led, kept}
-use Rattle.figures.specs.declared.Tally.{Tally}
+use Rattle.tally_definition.specs.declared.Tally.{Tally}
 use Rattle.tally.proofs.added.Statement.{statement}
 use Rattle.tally.proofs.added.Tie as tie
 

@@ -1,7 +1,7 @@
 -- Generated from the answers file beside it by tools/prove/prove.py: edit that.
 -- `tally::empty` meets its contract.
 use mathlib.Core.Path.{refl}
-use Rattle.figures.specs.Tallies.{none, zeros}
+use Rattle.tally_definition.specs.Tallies.{none, zeros}
 use Rattle.tally.proofs.empty.Statement.{statement}
 use Rattle.tally.proofs.empty.Tie as tie
 

@@ -1,7 +1,7 @@
 -- Generated from the answers file beside it by tools/prove/prove.py: edit that.
 -- `tally::refusal` meets its contract.
 use borrow.Author.Needs.{needs}
-use Rattle.figures.specs.Tallies.{fit, first-of, refusal}
+use Rattle.tally_definition.specs.Tallies.{fit, first-of, refusal}
 use borrow.Author.Tests.{lt-ltb, le-ltb, le-leb, lt-leb}
 use Rattle.tally.proofs.refusal.Statement.{statement}
 use Rattle.tally.proofs.refusal.Tie as tie

@@ -3,7 +3,7 @@
 use mathlib.Core.Path.{_≡_, sym, subst}
 use Prim.Native.Nat.{ℕ, _-_, _≤_}
 use native.Mathlib.Omega.{arith}
-use Rattle.figures.specs.Tallies.{smallAt, small}
+use Rattle.tally_definition.specs.Tallies.{smallAt, small}
 use Rattle.grid.specs.Loop.{every}
 use Rattle.grid.specs.LoopLaws.{every-none, every-more, every-fails}
 use borrow.Author.Tests.{lt-leb, le-leb}

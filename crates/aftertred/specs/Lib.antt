@@ -1,2 +1,0 @@
--- AfterTred: mark 0, and the run after tred2.
-pub mod AfterTred

@@ -1,0 +1,58 @@
+-- What the writer answers and leaves in its destination, and how long a block is. Definitions only.
+use mathlib.Core.Bool.{cond}
+use mathlib.Core.List.{List, [], _∷_, map}
+use Prim.Native.Nat.{ℕ, _+_, _*_}
+use lib.Dec.{ltb, eqb}
+use lib.ListN.{length}
+use Rattle.grid.specs.Real.{Vec}
+use Rattle.answers.specs.Answers.{done, refused}
+use Rattle.answers.specs.declared.Answer.{Answer}
+use Rattle.octets.specs.Bits.{bits}
+use Rattle.block_read.specs.Content.{Part, Head, size, heads, blockOf}
+use Rattle.block_read.specs.Reading.{orElse, dimensions, headAnswer}
+
+-- the writer's arguments as a list: the first count of three, each a kind with its count, or with its numbers
+unfoldable pub given : {A : Type 0} → ℕ → A → A → A → List A
+given count a b c = cond (ltb count 1) [] (a ∷ cond (ltb count 2) [] (b ∷ cond (ltb count 3) [] (c ∷ [])))
+
+-- ---- refusals 22 and 23, in the reader's order
+
+unfoldable pub headsAnswer : ℕ → ℕ → ℕ → List Head → ℕ
+headsAnswer rows columns last [] = 0
+headsAnswer rows columns last ((kind, n) ∷ hs) = orElse (headAnswer rows columns last kind n) (headsAnswer rows columns kind hs)
+
+unfoldable pub checked : ℕ → ℕ → ℕ → List Head → ℕ
+checked rows columns count hs = orElse (dimensions rows columns count) (headsAnswer rows columns 0 hs)
+
+-- ---- the length
+
+-- how many bytes so many numbers of each part take
+unfoldable pub bytesOf : List ℕ → ℕ
+bytesOf [] = 0
+bytesOf (n ∷ ns) = 8 * n + bytesOf ns
+
+-- of a block with so many parts of these counts
+unfoldable pub lengthWith : ℕ → List ℕ → ℕ
+lengthWith count ns = 12 + 12 * count + bytesOf ns
+
+abbrev pub sized : ℕ → ℕ → ℕ → Head
+sized rows columns kind = (kind, size rows columns kind)
+
+-- of the block of that shape with the first count of three kinds; 0 where the writer refuses it
+unfoldable pub lengthOf : ℕ → ℕ → ℕ → ℕ → ℕ → ℕ → ℕ
+lengthOf rows columns count k1 k2 k3 =
+    cond (eqb (checked rows columns count (given count (sized rows columns k1) (sized rows columns k2) (sized rows columns k3))) 0)
+    (lengthWith count (given count (size rows columns k1) (size rows columns k2) (size rows columns k3))) 0
+
+-- ---- the writer
+
+-- told that there are count parts, and these: 22 or 23, then 6, out as it was; or 0 and the block
+unfoldable pub written : ℕ → ℕ → ℕ → List Part → List ℕ → Answer × List ℕ
+written rows columns count ps out =
+    cond (eqb (checked rows columns count (heads ps)) 0)
+    (cond (eqb (length out) (length (blockOf rows columns ps))) (done 0, blockOf rows columns ps) (refused 6 0, out))
+    (refused (checked rows columns count (heads ps)) 0, out)
+
+-- a part of doubles
+abbrev pub doubles : ℕ → Vec → Part
+doubles kind xs = (kind, map bits xs)

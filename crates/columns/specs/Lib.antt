@@ -1,2 +1,0 @@
--- Columns turned by fours.
-pub mod Fours

@@ -1,0 +1,54 @@
+-- Generated from the answers file beside it by tools/prove/prove.py: edit that.
+-- `eigen_symmetric_eigen::layout::rows` meets its contract.
+use mathlib.Core.Path.{_≡_, refl}
+use Prim.Native.Nat.{_-_, _≤_}
+use native.Mathlib.Omega.{arith}
+use borrow.Author.Needs.{needs}
+use lib.ListN.{length}
+use Rattle.grid.specs.Loop.{upto}
+use Rattle.grid.specs.LoopLaws.{start, next, done}
+use Rattle.eigen_symmetric_eigen.specs.Layout.{mirrorRow, rows}
+use Rattle.eigen_symmetric_eigen.proofs.layout.rows.Statement.{statement}
+use Rattle.eigen_symmetric_eigen.proofs.layout.rows.Tie as tie
+
+abbrev Inv-loop : tie.InvT-loop
+Inv-loop n v₀ i₀ v i = (i ≤ n) × (length v ≡ length v₀) × (v ≡ upto (mirrorRow n) 0 i v₀)
+
+abbrev μ-loop : tie.MeasureT-loop
+μ-loop n v₀ i₀ v i = n - i
+
+loop-holds : tie.Need-loop-holds Inv-loop μ-loop
+loop-holds c = (omega arith, refl, start _ _ _)
+
+mirror-row-requires : tie.Need-mirror-row-requires Inv-loop μ-loop
+mirror-row-requires c κs = search needs
+
+add-i : tie.Need-add-i Inv-loop μ-loop
+add-i c = omega arith
+
+loop-less : tie.Need-loop-less Inv-loop μ-loop
+loop-less c = omega arith
+
+loop-again : tie.Need-loop-again Inv-loop μ-loop
+loop-again c = (omega arith, omega arith, next _ _ _ _ (omega arith) (c .before .before .before .before .before .loop .inv .2) (c .before .before .mirror-row .ensures))
+
+same-length : tie.Need-same-length Inv-loop μ-loop
+same-length c = omega arith
+
+returns : tie.Need-returns Inv-loop μ-loop
+unfolding rows
+returns c = done _ _ _ (omega arith) (omega arith) (c .before .loop .inv .2)
+
+pub rows-spec : {M : Type 1} → statement M
+rows-spec =
+    tie.close
+    (tie.spec
+    Inv-loop
+    μ-loop
+    loop-holds
+    mirror-row-requires
+    add-i
+    loop-less
+    loop-again
+    same-length
+    returns)

@@ -1,0 +1,4 @@
+-- Transform: the definition of the QL transformation of one pass.
+pub mod Transform
+-- Pass: the definition of one QL pass of tql2.
+pub mod Pass

@@ -1,0 +1,4 @@
+-- The similarity transformation by pairs of columns.
+pub mod ColumnPairs
+-- Columns turned by fours.
+pub mod FourColumns

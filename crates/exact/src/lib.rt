@@ -1,1 +1,0 @@
-// What holds of every call of `symmetric_eigen`. There is no code here: specs/ has the theorems.

@@ -1,2 +1,0 @@
--- Gram-Schmidt of one column.
-pub mod Gram

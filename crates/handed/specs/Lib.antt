@@ -1,2 +1,0 @@
--- What is handed back. Laws only.
-pub mod Laid

@@ -1,2 +1,0 @@
--- The theorems: `Choice`.
-pub mod Choice

@@ -1,2 +1,0 @@
--- The choice between the editions.
-pub mod Edition

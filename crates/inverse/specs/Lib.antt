@@ -1,3 +1,0 @@
--- What a pseudo-inverse is, and laws for the code.
-pub mod Inverse
-pub mod InverseLaws

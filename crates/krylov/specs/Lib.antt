@@ -1,3 +1,0 @@
--- The Lanczos steps. KrylovLaws: laws.
-pub mod Krylov
-pub mod KrylovLaws

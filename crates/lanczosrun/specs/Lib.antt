@@ -1,2 +1,0 @@
--- The Lanczos run from a start vector.
-pub mod Run

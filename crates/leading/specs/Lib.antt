@@ -1,2 +1,0 @@
--- The leading pairs.
-pub mod Leading

@@ -1,2 +1,0 @@
--- Machine: the run over l, pass by pass.
-pub mod Machine

@@ -1,2 +1,0 @@
--- What the marks of a run of one-sided Jacobi look at.
-pub mod Marks

@@ -1,3 +1,0 @@
--- Theorems: the sides of `hypot2`, and its value at some numbers.
-pub mod Sides
-pub mod Examples

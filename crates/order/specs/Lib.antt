@@ -1,3 +1,0 @@
--- The order of a decomposition.
-pub mod Order
-pub mod Rank

@@ -1,2 +1,0 @@
--- Calls of both owners and what each gives, computed.
-pub mod Worked

@@ -1,2 +1,0 @@
--- The similarity transformation by pairs of columns.
-pub mod Pairs

@@ -1,2 +1,0 @@
--- Pass: the definition of one QL pass of tql2.
-pub mod Pass

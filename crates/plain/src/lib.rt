@@ -1,1 +1,0 @@
-// The outcome of `svd` told by document 000's own sweeps. There is no code here: specs/ has the relations and the theorems.

@@ -1,2 +1,0 @@
--- Ql: the definition of tql2, with its marks and its limit.
-pub mod Ql

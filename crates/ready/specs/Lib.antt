@@ -1,2 +1,0 @@
--- Readied: a run made ready for its first l.
-pub mod Readied

@@ -1,3 +1,0 @@
--- The two rounds. Against: laws.
-pub mod Reorth
-pub mod Against

@@ -1,2 +1,0 @@
--- What the parts of `hypot2` compute.
-pub mod Parts

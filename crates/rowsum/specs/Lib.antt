@@ -1,2 +1,0 @@
--- Rows added up, sixteen columns at a time. Strips: laws.
-pub mod Strips

@@ -1,2 +1,0 @@
--- Begun: what a start comes to.
-pub mod Begun

@@ -1,3 +1,0 @@
--- Settled: settled l are skipped. Walk: laws.
-pub mod Settled
-pub mod Walk

@@ -1,2 +1,0 @@
--- The skip test with no root.
-pub mod Skip

@@ -1,2 +1,0 @@
--- The first vector.
-pub mod Start

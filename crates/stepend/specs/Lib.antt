@@ -1,2 +1,0 @@
--- The end of a step.
-pub mod End

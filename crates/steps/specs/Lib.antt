@@ -1,3 +1,0 @@
--- Steps: what a start, a step and a finish give. Left: laws.
-pub mod Steps
-pub mod Left

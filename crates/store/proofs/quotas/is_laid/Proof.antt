@@ -1,0 +1,61 @@
+-- Generated from the answers file beside it by tools/prove/prove.py: edit that.
+-- `store::quotas::is_laid` meets its contract.
+use mathlib.Core.Path.{_∙_, sym}
+use Prim.Native.Nat.{_+_}
+use native.Mathlib.Omega.{arith}
+use borrow.Author.Needs.{needs}
+use denote.Ref.{now}
+use lib.ListN.{length}
+use borrow.Author.Tests.{le-leb, lt-leb, eq-eqb, ne-eqb, not-true, not-false}
+use Rattle.store_definition.specs.Store.{roomOf}
+use Rattle.store_definition.specs.Owners.{quotaOf, laid}
+use Rattle.store_definition.specs.LaidLaws.{listed2-lists}
+use Rattle.store_definition.specs.LaidLaws.{leb-minus}
+use Rattle.store.proofs.quotas.is_laid.Statement.{statement}
+use Rattle.store.proofs.quotas.is_laid.Tie as tie
+
+is-listed-requires : tie.Need-is-listed-requires
+is-listed-requires c κs = search needs
+
+returns : tie.Need-returns
+unfolding laid
+returns c = rw (← c .before .is-listed .ensures, not-true (c .before .is-listed .result) (c .if1 .taken))
+
+shared-slice-read-room : tie.Need-shared-slice-read-room
+shared-slice-read-room c = omega (arith, listed2-lists (now (c .before .before .before .before .before .before .args .list)) (now (c .before .before .before .before .before .before .args .tiles)) (sym (c .before .before .is-listed .ensures) ∙ not-false (c .before .before .is-listed .result) (c .before .if1 .left)))
+
+returns-2 : tie.Need-returns-2
+unfolding laid
+returns-2 c = rw (← c .before .before .before .is-listed .ensures, not-false (c .before .before .before .is-listed .result) (c .before .before .if1 .left), lt-leb (roomOf (now (c .before .before .before .before .before .before .before .args .list))) 65536 (c .if2 .taken))
+
+returns-3 : tie.Need-returns-3
+unfolding laid
+returns-3 c = rw (← c .before .before .before .before .is-listed .ensures, not-false (c .before .before .before .before .is-listed .result) (c .before .before .before .if1 .left), le-leb (roomOf (now (c .before .before .before .before .before .before .before .before .args .list))) 65536 (c .before .if2 .left), ne-eqb (length (now (c .before .before .before .before .before .before .before .before .args .bytes))) (roomOf (now (c .before .before .before .before .before .before .before .before .args .list))) (c .if3 .taken))
+
+shared-slice-read-quota0 : tie.Need-shared-slice-read-quota0
+shared-slice-read-quota0 c = omega (arith, listed2-lists (now (c .before .before .before .before .before .before .before .before .before .args .list)) (now (c .before .before .before .before .before .before .before .before .before .args .tiles)) (sym (c .before .before .before .before .before .is-listed .ensures) ∙ not-false (c .before .before .before .before .before .is-listed .result) (c .before .before .before .before .if1 .left)))
+
+returns-4 : tie.Need-returns-4
+unfolding laid
+returns-4 c = rw (← c .before .before .before .before .before .before .is-listed .ensures, not-false (c .before .before .before .before .before .before .is-listed .result) (c .before .before .before .before .before .if1 .left), le-leb (roomOf (now (c .before .before .before .before .before .before .before .before .before .before .args .list))) 65536 (c .before .before .before .if2 .left), eq-eqb (length (now (c .before .before .before .before .before .before .before .before .before .before .args .bytes))) (roomOf (now (c .before .before .before .before .before .before .before .before .before .before .args .list))) (c .before .before .if3 .left), lt-leb (quotaOf 0 (now (c .before .before .before .before .before .before .before .before .before .before .args .list)) + quotaOf 1 (now (c .before .before .before .before .before .before .before .before .before .before .args .list))) (roomOf (now (c .before .before .before .before .before .before .before .before .before .before .args .list))) (omega (arith, c .if4 .taken)))
+
+shared-slice-read-result : tie.Need-shared-slice-read-result
+shared-slice-read-result c = omega (arith, listed2-lists (now (c .before .before .before .before .before .before .before .before .before .before .before .args .list)) (now (c .before .before .before .before .before .before .before .before .before .before .before .args .tiles)) (sym (c .before .before .before .before .before .before .before .is-listed .ensures) ∙ not-false (c .before .before .before .before .before .before .before .is-listed .result) (c .before .before .before .before .before .before .if1 .left)))
+
+returns-5 : tie.Need-returns-5
+unfolding laid
+returns-5 c = rw (← c .before .before .before .before .before .before .before .is-listed .ensures, not-false (c .before .before .before .before .before .before .before .is-listed .result) (c .before .before .before .before .before .before .if1 .left), le-leb (roomOf (now (c .before .before .before .before .before .before .before .before .before .before .before .args .list))) 65536 (c .before .before .before .before .if2 .left), eq-eqb (length (now (c .before .before .before .before .before .before .before .before .before .before .before .args .bytes))) (roomOf (now (c .before .before .before .before .before .before .before .before .before .before .before .args .list))) (c .before .before .before .if3 .left)) (leb-minus (quotaOf 1 (now (c .before .before .before .before .before .before .before .before .before .before .before .args .list))) (roomOf (now (c .before .before .before .before .before .before .before .before .before .before .before .args .list))) (quotaOf 0 (now (c .before .before .before .before .before .before .before .before .before .before .before .args .list))) (c .before .if4 .left))
+
+pub is-laid-spec : {M : Type 1} → statement M
+is-laid-spec =
+    tie.close
+    (tie.spec
+    is-listed-requires
+    returns
+    shared-slice-read-room
+    returns-2
+    returns-3
+    shared-slice-read-quota0
+    returns-4
+    shared-slice-read-result
+    returns-5)

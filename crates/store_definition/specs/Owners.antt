@@ -1,0 +1,99 @@
+-- Two owners over one store: what each call does, for every input. Definitions only.
+--
+-- `list` has the room, and behind it for each owner, 0 and 1, 34 numbers, which are the list of a store with 32 entries: its quota, how many blocks it holds,
+-- 32 lengths. Of `tiles` the first 32 are owner 0's, the others owner 1's; of the buffer the first bytes, as many as its quota, are owner 0's, and those behind them, as many as its
+-- quota, owner 1's. An owner's call is the store's own call on these three parts. The room and the quotas are the set-up's, and no call changes them.
+use mathlib.Core.Bool.{Bool, cond, not, _&&_}
+use mathlib.Core.List.{List, _++_}
+use Prim.Native.Nat.{ℕ, _+_, _*_}
+use lib.Dec.{ltb, leb, eqb}
+use lib.ListN.{length, take, drop, getD, set}
+use Rattle.answers.specs.declared.Answer.{Answer}
+use Rattle.answers.specs.Answers.{done, refused}
+use Rattle.store_definition.specs.Store.{roomOf, Outcome, kept, putOf, lengthHeld, fetchOf, dropOf}
+
+-- the n elements from a on, and a list with others in their place
+abbrev pub part : List ℕ → ℕ → ℕ → List ℕ
+part l a n = take n (drop a l)
+
+abbrev pub patched : List ℕ → ℕ → ℕ → List ℕ → List ℕ
+patched l a n p = take a l ++ (p ++ drop n (drop a l))
+
+-- an owner's quota, and where its bytes start
+abbrev pub quotaOf : ℕ → List ℕ → ℕ
+quotaOf owner list = getD list (1 + owner * 34) 0
+
+abbrev pub startFor : ℕ → List ℕ → ℕ
+startFor owner list = owner * quotaOf 0 list
+
+-- the arrays are of the lengths that a set-up takes
+abbrev pub listed2 : List ℕ → List ℕ → Bool
+listed2 list tiles = eqb (length list) 69 && eqb (length tiles) 64
+
+-- the arrays, the room and the quotas are such as a set-up leaves; what else the owners' lists have in them is not looked at
+unfoldable pub laid : List ℕ → List ℕ → List ℕ → Bool
+laid list tiles bytes =
+    listed2 list tiles
+    && leb (roomOf list) 65536
+    && eqb (length bytes) (roomOf list)
+    && leb (quotaOf 0 list + quotaOf 1 list) (roomOf list)
+
+-- what is refused before an owner's part is looked at: 34, then 39; else 0
+unfoldable pub barred : ℕ → List ℕ → List ℕ → List ℕ → ℕ
+barred owner list tiles bytes = cond (not (leb owner 1)) 34 (cond (not (laid list tiles bytes)) 39 0)
+
+module _ (list tiles bytes : List ℕ) where
+  -- both stores empty, whatever the arrays had in them
+  unfoldable pub setUp2 : ℕ → ℕ → Answer × List ℕ
+  setUp2 quota0 quota1 =
+      cond (ltb 65536 (length bytes)) (refused 37 0, list)
+      (cond (ltb (length bytes) (quota0 + quota1)) (refused 35 0, list)
+      (cond (not (listed2 list tiles)) (refused 39 0, list)
+      (done 0, set (set (set (set (set list 0 (length bytes)) 1 quota0) 2 0) 35 quota1) 36 0)))
+
+  -- both stores empty again, also where an owner's list is damaged
+  unfoldable pub reset : Answer × List ℕ
+  reset = cond (not (laid list tiles bytes)) (refused 39 0, list) (done 0, set (set list 2 0) 36 0)
+
+module _ (owner : ℕ) (list tiles bytes : List ℕ) where
+  abbrev pub ownList : List ℕ
+  ownList = part list (1 + owner * 34) 34
+
+  abbrev pub ownTiles : List ℕ
+  ownTiles = part tiles (owner * 32) 32
+
+  abbrev pub ownBytes : List ℕ
+  ownBytes = part bytes (startFor owner list) (quotaOf owner list)
+
+  -- an outcome of the owner's store, put back
+  abbrev pub back : Outcome → Outcome
+  back (a, l, t, b) = (
+    a,
+    patched list (1 + owner * 34) 34 l,
+    patched tiles (owner * 32) 32 t,
+    patched bytes (startFor owner list) (quotaOf owner list) b,
+  )
+
+  unfoldable pub putFor : ℕ → List ℕ → Outcome
+  putFor t block =
+      cond (eqb (barred owner list tiles bytes) 0)
+      (back (putOf 32 ownList ownTiles ownBytes t block))
+      (kept list tiles bytes (barred owner list tiles bytes))
+
+  unfoldable pub lengthFor : ℕ → Answer
+  lengthFor t =
+      cond (eqb (barred owner list tiles bytes) 0)
+      (lengthHeld 32 ownList ownTiles ownBytes t)
+      (refused (barred owner list tiles bytes) 0)
+
+  unfoldable pub fetchFor : ℕ → List ℕ → Answer × List ℕ
+  fetchFor t out =
+      cond (eqb (barred owner list tiles bytes) 0)
+      (fetchOf 32 ownList ownTiles ownBytes t out)
+      (refused (barred owner list tiles bytes) 0, out)
+
+  unfoldable pub dropFor : ℕ → Outcome
+  dropFor t =
+      cond (eqb (barred owner list tiles bytes) 0)
+      (back (dropOf 32 ownList ownTiles ownBytes t))
+      (kept list tiles bytes (barred owner list tiles bytes))

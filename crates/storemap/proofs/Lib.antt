@@ -1,2 +1,0 @@
--- A worked sequence of calls, and lists that are refused, computed.
-pub mod Worked

@@ -1,0 +1,31 @@
+-- The values of `jacobi_svd_tall` of document 000, operation for operation. Definitions only.
+use mathlib.Core.Bool.{cond}
+use Prim.Native.Nat.{ℕ, _+_}
+use lib.Ieee.{Float, lt}
+use lib.ListN.{set}
+use Rattle.grid.specs.Loop.{upto}
+use Rattle.grid.specs.Real.{Vec, at, zero64, _⊕_, _⊗_, _⊘_}
+use Rattle.root.specs.Root.{root}
+use Rattle.svd_jacobi_svd_tall.specs.Sweep.{uAt, valueAt}
+
+abbrev pub normStep : ℕ → Vec → ℕ → Float → Float
+normStep a w i x = x ⊕ at w (a + i) ⊗ at w (a + i)
+
+unfoldable pub normSq : ℕ → ℕ → Vec → Float
+normSq a rows w = upto (normStep a w) 0 rows zero64
+
+abbrev pub divideStep : ℕ → Float → ℕ → Vec → Vec
+divideStep a norm i w = set w (a + i) (at w (a + i) ⊘ norm)
+
+unfoldable pub divided : ℕ → ℕ → Float → Vec → Vec
+divided a rows norm w = upto (divideStep a norm) 0 rows w
+
+-- column j: its norm is the value, and it is divided unless that is 0
+unfoldable pub normalStep : ℕ → ℕ → ℕ → Vec → Vec
+normalStep rows cols j w =
+    let norm = root (normSq (uAt rows j) rows w) in
+    let v = set w (valueAt rows cols j) norm in
+    cond (lt zero64 norm) (divided (uAt rows j) rows norm v) v
+
+unfoldable pub normalised : ℕ → ℕ → Vec → Vec
+normalised rows cols w = upto (normalStep rows cols) 0 cols w

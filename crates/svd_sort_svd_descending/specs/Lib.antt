@@ -1,0 +1,6 @@
+-- The order of a decomposition.
+pub mod Order
+pub mod Rank
+-- A decomposition as a result, and where its parts stand.
+pub mod Result
+pub mod ResultSizes

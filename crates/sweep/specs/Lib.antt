@@ -1,3 +1,0 @@
--- One sweep of one-sided Jacobi.
-pub mod Sweep
-pub mod Kept

@@ -1,2 +1,0 @@
--- The product of a matrix that is its own mirror. Symmetry: laws.
-pub mod Symmetry

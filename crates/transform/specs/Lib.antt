@@ -1,2 +1,0 @@
--- Transform: the definition of the QL transformation of one pass.
-pub mod Transform

@@ -1,2 +1,0 @@
--- Tri: the tridiagonal matrix of Lanczos.
-pub mod Tri

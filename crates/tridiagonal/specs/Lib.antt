@@ -1,3 +1,0 @@
--- The tridiagonal problem of Lanczos. Mirror: laws.
-pub mod Tridiagonal
-pub mod Mirror

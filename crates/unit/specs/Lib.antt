@@ -1,2 +1,0 @@
--- A column made one of the basis.
-pub mod Unit
