@@ -4,6 +4,7 @@
 # make example       the examples in C, built and run: a codec, a decode loop, one that keeps 8 of 256 components
 # make believe       what a reader must believe, in reading order, into build/believe.txt: the contracts that C sees, the theorems' statements, the definitions of both;
 #                    docs/believe.txt is that text, and the gate holds the tree to it (tools/believe.mk)
+# make book          the definitions beside document 000, as pages to read, into build/book (tools/book.mk)
 # make install       archive, shared library, header and the rest under PREFIX; make release packs them (tools/install.mk)
 # make edits-all     the must-fail edits that the gate leaves out (edits/)
 # make proofs-fresh  whether each generated Proof.antt is what tools/prove/prove.py writes today
@@ -24,6 +25,7 @@ all: archive
 include tools/c.mk
 include tools/install.mk
 include tools/believe.mk
+include tools/book.mk
 include tools/wings.mk
 include tools/pencil.mk
 include oracle/oracle.mk

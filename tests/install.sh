@@ -61,13 +61,19 @@ esac
 # ---- what is installed
 
 lib=lib/x86_64-linux-gnu
+book=
+if have python3 'the book'; then
+    check 'make book' "$make" -s book
+    book=$(files build/book | sed 's|[^ ][^ ]*|share/doc/crewelmarsh/book/&|g')
+fi
 check 'make install' "$make" -s install PREFIX="$scratch/prefix" ARCHIVE="$archive"
 check 'make install DESTDIR LIB' "$make" -s install DESTDIR="$scratch/stage" PREFIX=/usr LIB=$lib ARCHIVE="$archive"
 check 'files' same "$(files "$scratch/prefix")" "include/crewelmarsh.h lib/cmake/crewelmarsh/crewelmarshConfig.cmake \
 lib/cmake/crewelmarsh/crewelmarshConfigVersion.cmake lib/libcrewelmarsh.a lib/libcrewelmarsh.so lib/libcrewelmarsh.so.$major \
-lib/libcrewelmarsh.so.$version lib/pkgconfig/crewelmarsh.pc share/doc/crewelmarsh/LICENSE share/doc/crewelmarsh/NOTICE "
+lib/libcrewelmarsh.so.$version lib/pkgconfig/crewelmarsh.pc share/doc/crewelmarsh/LICENSE share/doc/crewelmarsh/NOTICE $book"
 check 'files of DESTDIR' same "$(files "$scratch/stage/usr")" \
     "$(files "$scratch/prefix" | sed "s|\([ ^]\)lib/|\1$lib/|g")"
+[ -z "$book" ] || check 'the book that make book writes' diff -r build/book "$scratch/prefix/share/doc/crewelmarsh/book"
 check 'DESTDIR stands in no file' same "$(grep -rl "$scratch" "$scratch/stage")" ''
 for file in include/crewelmarsh.h LICENSE NOTICE; do
     check "$file" cmp "$file" "$(find "$scratch/prefix" -name "$(basename "$file")")"

@@ -7,7 +7,7 @@
 # (tests/gate.sh tries such ways). What a gate can't hold: a false rt, make or sh that stands in PATH, and a makefile of someone's that writes such a line itself.
 set -u
 CDPATH='' cd -- "$(dirname "$0")/.." || exit 2
-QUICK='counts-check labels-check believe-check verbatim wings-check pencil-check plot-check gate-test'
+QUICK='counts-check labels-check believe-check map-check verbatim wings-check pencil-check plot-check gate-test'
 REST='parts proved-check boundary example-test'
 [ $# -eq 0 ] || { echo 'usage: tools/gate.sh' >&2; exit 2; }
 processors=$(nproc 2>/dev/null || echo 1)

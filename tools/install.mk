@@ -1,7 +1,7 @@
 # Installing and releasing. The version is the header's (tools/c.mk reads it). Needs what tools/c.mk needs, and tar for a release.
 #
 #   make shared          dist/libcrewelmarsh.so.VERSION, from the archive
-#   make install         archive, shared library, header, pkg-config file, CMake package, LICENSE and NOTICE, under PREFIX
+#   make install         archive, shared library, header, pkg-config file, CMake package, LICENSE, NOTICE and the book, under PREFIX; without python3 no book
 #   make release         the same files in dist/crewelmarsh-VERSION-x86_64-linux.tar, with checksums and what they were built from
 #   make install-test    all of that tried in a scratch folder with gcc, g++, pkg-config and cmake (GCC, GXX and RUNNER elsewhere than on x86-64)
 #

@@ -31,3 +31,12 @@ ln -sf "libcrewelmarsh.so.$major" "$root/$lib/libcrewelmarsh.so"
 fill crewelmarsh.pc "$root/$lib/pkgconfig"
 fill crewelmarshConfig.cmake "$root/$lib/cmake/crewelmarsh"
 fill crewelmarshConfigVersion.cmake "$root/$lib/cmake/crewelmarsh"
+
+# The book (tools/book.mk). What is wrong with it is said, and stops nothing: the gate holds its map.
+book=$root/share/doc/crewelmarsh/book
+rm -rf "$book"
+if command -v python3 >/dev/null; then
+    python3 -B -X utf8 tools/book/book.py "$book" >/dev/null || :
+else
+    echo 'install: the book is left out, since there is no python3 here'
+fi

@@ -7,9 +7,11 @@ use Rattle.grid.specs.Real.{zero64}
 use Rattle.answers.specs.Answers.{done, refused}
 use Rattle.answers.specs.declared.Answer.{Answer}
 
+-- the limit is 1 to 60
 unfoldable pub limitGood : ℕ → Bool
 limitGood limit = leb 1 limit && leb limit 60
 
+-- the edition is 1 or 2
 unfoldable pub editionGood : ℕ → Bool
 editionGood edition = leb 1 edition && leb edition 2
 

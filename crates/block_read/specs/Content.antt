@@ -38,6 +38,7 @@ pub record Content (rows columns : ℕ) (ps : List Part) : Type 0 where
 abbrev pub Head : Type 0
 Head = ℕ × ℕ
 
+-- the kind and the count of each part
 unfoldable pub heads : List Part → List Head
 heads [] = []
 heads ((kind, words) ∷ ps) = (kind, length words) ∷ heads ps
@@ -47,6 +48,7 @@ unfoldable pub entriesBytes : ℕ → List Head → List ℕ
 entriesBytes off [] = []
 entriesBytes off ((kind, n) ∷ hs) = three kind off n ++ entriesBytes (off + 8 * n) hs
 
+-- the numbers of all parts, one behind the other, as bytes
 unfoldable pub numbersBytes : List Part → List ℕ
 numbersBytes [] = []
 numbersBytes ((kind, words) ∷ ps) = wordsBytes words ++ numbersBytes ps

@@ -15,6 +15,7 @@ unfoldable pub placeIn : List ℕ → ℕ → ℕ → ℕ → ℕ
 placeIn t zero at kind = 0
 placeIn t (suc left) at kind = cond (eqb (num 4 t at) kind) (num 4 t (at + 4)) (placeIn t left (at + 12) kind)
 
+-- how many numbers the part of that kind has, which starts at `at`: 0 where that is 0, for there is none then
 unfoldable pub held : ℕ → ℕ → ℕ → ℕ → ℕ
 held rows columns kind at = cond (eqb at 0) 0 (size rows columns kind)
 
@@ -32,9 +33,11 @@ blockFor rows columns v m i = record {
   inverse = held rows columns 3 i;
 }
 
+-- the record of bytes that are refused with a
 abbrev pub noBlock : ℕ → Block
 noBlock a = record { answer = refused a 0; rows = 0; columns = 0; «values_at» = 0; values = 0; «matrix_at» = 0; matrix = 0; «inverse_at» = 0; inverse = 0 }
 
+-- the record of the bytes t
 unfoldable pub blockRead : List ℕ → Block
 blockRead t =
     cond (eqb (answerOf t) 0)

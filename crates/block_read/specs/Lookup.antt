@@ -36,6 +36,7 @@ partAt p Missing = (p .0, 0 + p .1)
 
 -- ---- the tile's own block before the main one
 
+-- x where the tile's own block has the part, else y
 abbrev pub first : {A : Type 0} → Span → A → A → A
 first (At a e) x y = x
 first Missing x y = y
@@ -53,6 +54,7 @@ abbrev pub foundIn : ℕ → Span → Found
 foundIn block (At a e) = record { block = block; start = a; count = (e - a) / 8 }
 foundIn block Missing = record { block = 0; start = 0; count = 0 }
 
+-- the tile's own part by its three numbers, else the main block's
 unfoldable pub found : List ℕ → List ℕ → ℕ → Found
 found own main kind = first (spanOf own kind) (foundIn 1 (spanOf own kind)) (foundIn 2 (spanOf main kind))
 
@@ -60,5 +62,6 @@ found own main kind = first (spanOf own kind) (foundIn 1 (spanOf own kind)) (fou
 abbrev pub copiedTo : List ℕ → Vec → Answer × Vec
 copiedTo part out = cond (eqb (length part / 8) (length out)) (done 0, map float (wordsAt part 0 (length out))) (refused 6 0, out)
 
+-- the part that is found, as doubles
 unfoldable pub copied : List ℕ → List ℕ → ℕ → Vec → Answer × Vec
 copied own main kind out = copiedTo (lookup own main kind) out

@@ -17,10 +17,12 @@ given count a b c = cond (ltb count 1) [] (a ∷ cond (ltb count 2) [] (b ∷ co
 
 -- ---- refusals 22 and 23, in the reader's order
 
+-- the first refusal of these kinds and counts, where `last` is the kind before them; else 0
 unfoldable pub headsAnswer : ℕ → ℕ → ℕ → List Head → ℕ
 headsAnswer rows columns last [] = 0
 headsAnswer rows columns last ((kind, n) ∷ hs) = orElse (headAnswer rows columns last kind n) (headsAnswer rows columns kind hs)
 
+-- the shape and the number of parts, then each part; 0 where none is refused
 unfoldable pub checked : ℕ → ℕ → ℕ → List Head → ℕ
 checked rows columns count hs = orElse (dimensions rows columns count) (headsAnswer rows columns 0 hs)
 
@@ -35,6 +37,7 @@ bytesOf (n ∷ ns) = 8 * n + bytesOf ns
 unfoldable pub lengthWith : ℕ → List ℕ → ℕ
 lengthWith count ns = 12 + 12 * count + bytesOf ns
 
+-- a kind, with the count that it has in a block of that shape
 abbrev pub sized : ℕ → ℕ → ℕ → Head
 sized rows columns kind = (kind, size rows columns kind)
 

@@ -33,6 +33,7 @@ cellAt n N samples k = whole samples N (k / n) (k % n)
 unfoldable pub firstOver : ℕ → ℕ → List ℤ → ℕ
 firstOver n N samples = first (λ k. over (cellAt n N samples k)) 0 (n * n)
 
+-- every entry as a double, row by row
 unfoldable pub matrixOf : ℕ → ℕ → List ℤ → Vec
 matrixOf n N samples = table (λ k. ofInt binary64 (cellAt n N samples k)) (n * n)
 

@@ -17,9 +17,11 @@ use Rattle.eigen_tql2_step.specs.Advance.{step}
 use Rattle.eigen_tql2_step.specs.Checks.{checked}
 use Rattle.eigen_steps.specs.declared.EigenRun.{EigenRun}
 
+-- the next record, work and result
 abbrev pub Outcome : Type 0
 Outcome = EigenRun × Vec × Vec
 
+-- the record of these: n, limit, edition, the run and the answer
 abbrev pub recorded : ℕ → ℕ → ℕ → Run → Answer → EigenRun
 recorded n limit edition r x = record { n = n; limit = limit; edition = edition; run = r; answer = x }
 
@@ -41,6 +43,7 @@ endsAs n limit edition r (x, work, result) = (recorded n limit edition r x, work
 abbrev pub newRun : ℕ → ℕ → ℕ → ℕ → Answer → EigenRun
 newRun n limit edition stop x = recorded n limit edition (stopping fresh stop) x
 
+-- a run that ends before its first l, with what the one call gives
 abbrev pub endsWith : ℕ → ℕ → ℕ → Answer × Vec × Vec → Outcome
 endsWith n limit edition x = endsAs n limit edition (stopping fresh converged) x
 
@@ -50,6 +53,7 @@ begun n limit edition a =
     let (b, work, result) = setting n a in
     cond (isBad b) (newRun n limit edition converged (marked 0 0 b), work, result) (newRun n limit edition going (done 0), work, result)
 
+-- sizes, limit, edition and lengths are as they should be: refusal 7, n = 0, or the run begins
 unfoldable pub startEntered : ℕ → ℕ → ℕ → Vec → Outcome
 startEntered n limit edition a =
     let x = refusal7 (firstBadLower n a) in

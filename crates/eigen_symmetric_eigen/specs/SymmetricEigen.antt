@@ -15,6 +15,7 @@ use Rattle.eigen_symmetric_eigen.specs.AfterTred2.{afterTred}
 
 -- ---- the run: v, d and e as they are lent, and afterwards the answer, v, d and e
 
+-- the matrix a copied into v, `tred2`, then mark 0 and `tql2`
 unfoldable pub decomposed : ℕ → ℕ → ℕ → Vec → Vec × Vec × Vec → Answer × Vec × Vec × Vec
 decomposed n limit edition a (v, d, e) = afterTred n limit edition (tred2 n (columns n a v, d, e))
 

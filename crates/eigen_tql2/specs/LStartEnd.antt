@@ -35,6 +35,7 @@ opened n l r d e =
     let m = split n l tst1 e in
     record { l = l; m = m; f = r .f; tst1 = tst1; passes = 0; count = r .count; stop = cond (ltb l m) going converged; index = 0 }
 
+-- the run has a reason to stop, or has settled at its l
 abbrev pub ended : State → Bool
 ended (r, v, d, e) = not (eqb (r .stop) going)
 

@@ -10,6 +10,7 @@ use Rattle.eigen_tql2.specs.LStartEnd.{State, opened, ended, closed}
 unfoldable pub iterated : ℕ → ℕ → ℕ → State → State
 iterated n limit edition x = cond (ended x) x (rounds (pass n edition) ended limit x)
 
+-- one l: the run comes to it, its passes, and what they came to
 unfoldable pub stage : ℕ → ℕ → ℕ → ℕ → State → State
 stage n limit edition l (r, v, d, e) = closed (iterated n limit edition (opened n l r d e, v, d, e))
 
@@ -17,5 +18,6 @@ stage n limit edition l (r, v, d, e) = closed (iterated n limit edition (opened 
 unfoldable pub turn : ℕ → ℕ → ℕ → ℕ → State → State
 turn n limit edition l x = cond (ended x) x (stage n limit edition l x)
 
+-- l = 0 .. n - 1 in turn
 unfoldable pub run : ℕ → ℕ → ℕ → State → State
 run n limit edition x = upto (turn n limit edition) 0 n x

@@ -14,6 +14,7 @@ use Rattle.eigen_tql2.specs.declared.sort.Best.{Best}
 abbrev pub better : Vec → ℕ → Best → Best
 better d j b = cond (lt (at d j) (b .p)) (record { k = j; p = at d j }) b
 
+-- `better` for j = i + 1 .. n - 1, from i and d[i]
 unfoldable pub leastFrom : ℕ → ℕ → Vec → Best
 leastFrom n i d = upto (better d) (i + 1) n (record { k = i; p = at d i })
 
@@ -24,6 +25,7 @@ swapStep n i k row v =
     let y = at2 v n row k in
     put2 (put2 v n row i y) n row k x
 
+-- `swapStep` for row = 0 .. n - 1
 unfoldable pub swapped : ℕ → ℕ → ℕ → Vec → Vec
 swapped n i k v = upto (swapStep n i k) 0 n v
 
@@ -33,5 +35,6 @@ sortStep n i (v, d) =
     let b = leastFrom n i d in
     cond (eqb (b .k) i) (v, d) (swapped n i (b .k) v, set (set d (b .k) (at d i)) i (b .p))
 
+-- the selection sort: `sortStep` for i = 0 .. n - 2
 unfoldable pub sorted : ℕ → Vec × Vec → Vec × Vec
 sorted n x = upto (sortStep n) 0 (n - 1) x

@@ -17,9 +17,11 @@ use Rattle.eigen_tql2_pass.specs.declared.Run.{Run}
 abbrev pub going : ℕ
 going = 0
 
+-- l has settled
 abbrev pub converged : ℕ
 converged = 1
 
+-- the limit is used up: refusal 9
 abbrev pub limitUsed : ℕ
 limitUsed = 9
 
@@ -49,6 +51,7 @@ abbrev pub afterPass : Run → Float → Reason → Run
 afterPass r h t =
     record { l = r .l; m = r .m; f = r .f ⊕ h; tst1 = r .tst1; passes = r .passes + 1; count = r .count + 1; stop = t .stop; index = t .index }
 
+-- one pass at the run's l and m: the transformation, then mark 1 and the convergence test
 unfoldable pub pass : ℕ → ℕ → Run × Vec × Vec × Vec → Run × Vec × Vec × Vec
 pass n edition (r, v, d, e) =
     let (h, v, d, e) = transformed n edition (r .l) (r .m) (v, d, e) in

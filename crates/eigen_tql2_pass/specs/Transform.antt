@@ -30,6 +30,7 @@ shift edition l d e =
 abbrev pub lessStep : Float → ℕ → Vec → Vec
 lessStep h i d = set d i (at d i ⊖ h)
 
+-- `lessStep` for i = l + 2 .. n - 1
 unfoldable pub lessened : ℕ → ℕ → Float → Vec → Vec
 lessened n l h d = upto (lessStep h) (l + 2) n d
 
@@ -42,6 +43,7 @@ rotStep n i c s k v =
     let h = at2 v n k (i + 1) in
     put2 (put2 v n k (i + 1) (s ⊗ g ⊕ c ⊗ h)) n k i (c ⊗ g ⊖ s ⊗ h)
 
+-- `rotStep` for k = 0 .. n - 1
 unfoldable pub rotated : ℕ → ℕ → Float → Float → Vec → Vec
 rotated n i c s v = upto (rotStep n i c s) 0 n v
 
@@ -62,6 +64,7 @@ spin n edition i (q, v, d, e) =
       set e (i + 1) (q .s ⊗ r),
     )
 
+-- `spin` at i = m - 1 down to l
 unfoldable pub spins : ℕ → ℕ → ℕ → ℕ → Spin × Vec × Vec × Vec → Spin × Vec × Vec × Vec
 spins n edition l m x = fall (spin n edition) l m x
 

@@ -15,6 +15,7 @@ nextL r = record { l = r .l + 1; m = r .m; f = r .f; tst1 = r .tst1; passes = 0;
 unfoldable pub onward : Run → Run
 onward r = cond (not (eqb (r .stop) going)) r (nextL r)
 
+-- the run onward, v, d and e as they are
 abbrev pub goneOn : State → State
 goneOn (r, v, d, e) = (onward r, v, d, e)
 

@@ -18,6 +18,7 @@ use Rattle.leaves.specs.Leaf.{magnitude}
 abbrev pub scaleStep : Vec → ℕ → Float → Float
 scaleStep d k scale = scale ⊕ magnitude (at d k)
 
+-- `scaleStep` for k = 0 .. i - 1, from +0.0: the scale of row i
 unfoldable pub scaleOf : ℕ → Vec → Float
 scaleOf i d = upto (scaleStep d) 0 i zero64
 
@@ -25,6 +26,7 @@ scaleOf i d = upto (scaleStep d) 0 i zero64
 abbrev pub skipStep : ℕ → ℕ → ℕ → Vec × Vec → Vec × Vec
 skipStep n i j (v, d) = (put2 (put2 v n i j zero64) n j i zero64, set d j (at2 v n (i - 1) j))
 
+-- `skipStep` for j = 0 .. i - 1
 unfoldable pub skipRow : ℕ → ℕ → Vec × Vec → Vec × Vec
 skipRow n i s = upto (skipStep n i) 0 i s
 
@@ -34,12 +36,15 @@ overScaleStep scale k (h, d) =
     let x = at d k ⊘ scale in
     (h ⊕ x ⊗ x, set d k x)
 
+-- `overScaleStep` for k = 0 .. i - 1, h from +0.0
 unfoldable pub overScale : ℕ → Float → Vec → Float × Vec
 overScale i scale d = upto (overScaleStep scale) 0 i (zero64, d)
 
+-- e[j] to 0
 abbrev pub clearStep : ℕ → Vec → Vec
 clearStep j e = set e j zero64
 
+-- e[0] .. e[i - 1] to 0
 unfoldable pub clear : ℕ → Vec → Vec
 clear i e = upto clearStep 0 i e
 
@@ -61,6 +66,7 @@ similarStep n j f v d k (g, e) =
     let x = at2 v n k j in
     (g ⊕ x ⊗ at d k, set e k (at e k ⊕ x ⊗ f))
 
+-- `similarStep` for k = j + 1 .. i - 1
 unfoldable pub similarColumn : ℕ → ℕ → ℕ → Float → Vec → Vec → Float × Vec → Float × Vec
 similarColumn n i j f v d s = upto (similarStep n j f v d) (j + 1) i s
 
@@ -72,6 +78,7 @@ similarityStep n i d j (v, e) =
     let (g, e) = similarColumn n i j f v d (at e j ⊕ at2 v n j j ⊗ f, e) in
     (v, set e j g)
 
+-- `similarityStep` for j = 0 .. i - 1
 unfoldable pub similarity : ℕ → ℕ → Vec → Vec × Vec → Vec × Vec
 similarity n i d s = upto (similarityStep n i d) 0 i s
 
@@ -81,6 +88,7 @@ overHStep h d j (f, e) =
     let x = at e j ⊘ h in
     (f ⊕ x ⊗ at d j, set e j x)
 
+-- `overHStep` for j = 0 .. i - 1, f from +0.0
 unfoldable pub overH : ℕ → Float → Vec → Vec → Float × Vec
 overH i h d e = upto (overHStep h d) 0 i (zero64, e)
 
@@ -88,6 +96,7 @@ overH i h d e = upto (overHStep h d) 0 i (zero64, e)
 abbrev pub lessenStep : Float → Vec → ℕ → Vec → Vec
 lessenStep hh d j e = set e j (at e j ⊖ hh ⊗ at d j)
 
+-- `lessenStep` for j = 0 .. i - 1
 unfoldable pub lessen : ℕ → Float → Vec → Vec → Vec
 lessen i hh d e = upto (lessenStep hh d) 0 i e
 
@@ -95,6 +104,7 @@ lessen i hh d e = upto (lessenStep hh d) 0 i e
 abbrev pub updateStep : ℕ → ℕ → Float → Float → Vec → Vec → ℕ → Vec → Vec
 updateStep n j f g d e k v = put2 v n k j (at2 v n k j ⊖ (f ⊗ at e k ⊕ g ⊗ at d k))
 
+-- `updateStep` for k = j .. i - 1
 unfoldable pub updateColumn : ℕ → ℕ → ℕ → Float → Float → Vec → Vec → Vec → Vec
 updateColumn n i j f g d e v = upto (updateStep n j f g d e) j i v
 
@@ -104,6 +114,7 @@ updatesStep n i e j (v, d) =
     let v = updateColumn n i j (at d j) (at e j) d e v in
     (put2 v n i j zero64, set d j (at2 v n (i - 1) j))
 
+-- `updatesStep` for j = 0 .. i - 1
 unfoldable pub updates : ℕ → ℕ → Vec → Vec × Vec → Vec × Vec
 updates n i e s = upto (updatesStep n i e) 0 i s
 
@@ -125,6 +136,7 @@ skip n i (v, d, e) =
     let (v, d) = skipRow n i (v, d) in
     (zero64, v, d, e)
 
+-- row i skipped where its scale is 0, else reflected: h, v, d and e
 unfoldable pub reduce : ℕ → ℕ → Float → Vec × Vec × Vec → Float × Vec × Vec × Vec
 reduce n i scale s = cond (eq scale zero64) (skip n i s) (reflect n i scale s)
 
@@ -144,6 +156,7 @@ reduction n s = down (householder n) (n - 1) s
 abbrev pub columnOverStep : ℕ → ℕ → Float → Vec → ℕ → Vec → Vec
 columnOverStep n m h v k d = set d k (at2 v n k m ⊘ h)
 
+-- `columnOverStep` for k = 0 .. m - 1
 unfoldable pub columnOver : ℕ → ℕ → Float → Vec → Vec → Vec
 columnOver n m h v d = upto (columnOverStep n m h v) 0 m d
 
@@ -151,6 +164,7 @@ columnOver n m h v d = upto (columnOverStep n m h v) 0 m d
 abbrev pub columnDotStep : ℕ → ℕ → ℕ → Vec → ℕ → Float → Float
 columnDotStep n m j v k g = g ⊕ at2 v n k m ⊗ at2 v n k j
 
+-- `columnDotStep` for k = 0 .. m - 1, from +0.0
 unfoldable pub columnDot : ℕ → ℕ → ℕ → Vec → Float
 columnDot n m j v = upto (columnDotStep n m j v) 0 m zero64
 
@@ -158,6 +172,7 @@ columnDot n m j v = upto (columnDotStep n m j v) 0 m zero64
 abbrev pub takeStep : ℕ → ℕ → Float → Vec → ℕ → Vec → Vec
 takeStep n j g d k v = put2 v n k j (at2 v n k j ⊖ g ⊗ at d k)
 
+-- `takeStep` for k = 0 .. m - 1
 unfoldable pub takeOff : ℕ → ℕ → ℕ → Float → Vec → Vec → Vec
 takeOff n m j g d v = upto (takeStep n j g d) 0 m v
 
@@ -167,6 +182,7 @@ turnColumnStep n m d j v =
     let g = columnDot n m j v in
     takeOff n m j g d v
 
+-- `turnColumnStep` for j = 0 .. m - 1
 unfoldable pub turnColumns : ℕ → ℕ → Vec → Vec → Vec
 turnColumns n m d v = upto (turnColumnStep n m d) 0 m v
 
@@ -174,6 +190,7 @@ turnColumns n m d v = upto (turnColumnStep n m d) 0 m v
 abbrev pub clearColumnStep : ℕ → ℕ → ℕ → Vec → Vec
 clearColumnStep n m k v = put2 v n k m zero64
 
+-- `clearColumnStep` for k = 0 .. m - 1
 unfoldable pub clearColumn : ℕ → ℕ → Vec → Vec
 clearColumn n m v = upto (clearColumnStep n m) 0 m v
 
@@ -201,6 +218,7 @@ accumulation n s = upto (accumulate n) 0 (n - 1) s
 abbrev pub copyLastStep : ℕ → Vec → ℕ → Vec → Vec
 copyLastStep n v j d = set d j (at2 v n (n - 1) j)
 
+-- `copyLastStep` for j = 0 .. n - 1
 unfoldable pub copyLast : ℕ → Vec → Vec → Vec
 copyLast n v d = upto (copyLastStep n v) 0 n d
 
@@ -208,6 +226,7 @@ copyLast n v d = upto (copyLastStep n v) 0 n d
 abbrev pub moveStep : ℕ → ℕ → Vec × Vec → Vec × Vec
 moveStep n j (v, d) = (put2 v n (n - 1) j zero64, set d j (at2 v n (n - 1) j))
 
+-- `moveStep` for j = 0 .. n - 1
 unfoldable pub moveLast : ℕ → Vec × Vec → Vec × Vec
 moveLast n s = upto (moveStep n) 0 n s
 

@@ -13,15 +13,19 @@ use Rattle.root.specs.Root.{root}
 abbrev pub columnOf : ℕ → ℕ → Vec → ℕ → Vec
 columnOf m k q j = table (λ row. entry q k row j) m
 
+-- the sum, and the product of b and c at this row
 abbrev pub dotStep : Vec → Vec → ℕ → Float → Float
 dotStep b c row acc = acc ⊕ at b row ⊗ at c row
 
+-- b times c, summed from row 0 on, starting at +0.0
 unfoldable pub dot : ℕ → Vec → Vec → Float
 dot m b c = upto (dotStep b c) 0 m zero64
 
+-- c less proj times b, at this row
 abbrev pub lessStep : Float → Vec → ℕ → Vec → Vec
 lessStep proj b row c = set c row (at c row ⊖ proj ⊗ at b row)
 
+-- c less proj times b, row by row
 unfoldable pub lessened : ℕ → Float → Vec → Vec → Vec
 lessened m proj b c = upto (lessStep proj b) 0 m c
 
@@ -37,5 +41,6 @@ lessColumns m k j q c = upto (lessColumn m k q) 0 j c
 unfoldable pub lessColumnsTwice : ℕ → ℕ → ℕ → Vec → Vec → Vec
 lessColumnsTwice m k j q c = upto (λ p. lessColumns m k j q) 0 2 c
 
+-- the root of c times c
 unfoldable pub norm : ℕ → Vec → Float
 norm m c = root (dot m c c)

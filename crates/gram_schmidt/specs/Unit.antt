@@ -11,9 +11,11 @@ use Rattle.answers.specs.declared.Answer.{Answer}
 use Rattle.leaves.specs.Leaf.{isFinite}
 use Rattle.leaves.specs.Scan.{classOf}
 
+-- c over `by`, at this row
 abbrev pub overStep : Float → ℕ → Vec → Vec
 overStep by row c = set c row (at c row ⊘ by)
 
+-- c over `by`, row by row
 unfoldable pub over : ℕ → Float → Vec → Vec
 over m by c = upto (overStep by) 0 m c
 
@@ -25,6 +27,7 @@ normalised m by c = cond (lt epsilon by) (over m by c) (zeros (length c))
 abbrev pub putStep : ℕ → ℕ → Vec → ℕ → Vec → Vec
 putStep k j c row q = putEntry q k row j (at c row)
 
+-- all m rows of c as column j of q, which has k columns
 unfoldable pub putColumn : ℕ → ℕ → ℕ → Vec → Vec → Vec
 putColumn m k j c q = upto (putStep k j c) 0 m q
 

@@ -7,5 +7,6 @@ use lib.Ieee.{Float}
 use Rattle.leaves.specs.Leaf.{hypot}
 use Rattle.hypot.specs.Hypot2.{hypot2}
 
+-- hypot of x and y: where the edition is 1 by the scope's steps, else correctly rounded
 unfoldable pub pythag : ℕ → Float → Float → Float
 pythag edition x y = cond (eqb edition 1) (hypot x y) (hypot2 x y)

@@ -10,6 +10,7 @@ use Rattle.answers.specs.declared.Answer.{Answer}
 unfoldable pub size : ℕ → ℕ → ℕ
 size n k = least (2 * k + 20) n
 
+-- s·n + 2n + 2s·s + 4s
 unfoldable pub workLength : ℕ → ℕ → ℕ
 workLength n k = size n k * n + 2 * n + 2 * size n k * size n k + 4 * size n k
 

@@ -16,9 +16,11 @@ use Rattle.lanczos.specs.Checks.{size}
 
 -- ---- the run, of an outcome (answer, answer array); k + k * n numbers are handed out
 
+-- the answer, and the answer array
 abbrev pub Outcome : Type 0
 Outcome = Answer × Vec
 
+-- an answer with no pair: the array is all +0.0
 abbrev pub none : ℕ → ℕ → Answer → Outcome
 none n k x = (x, zeros (k + k * n))
 
@@ -27,6 +29,7 @@ unfoldable pub paired : ℕ → ℕ → ℕ → Vec → Answer × Vec × Vec →
 paired n k m q (x, work, result) =
     cond (passed x) (selected n k m (x .count) q (take m result) (drop m result) (zeros (k + k * n))) (none n k x)
 
+-- what the steps refused; else the inner call, and its pairs
 unfoldable pub solved : ℕ → ℕ → ℕ → ℕ → LanczosState → Outcome
 solved n k limit edition (r, q, al, be, v) =
     cond (passed (r .said)) (paired n k (r .dim) q (inward (r .dim) limit edition al be)) (none n k (r .said))

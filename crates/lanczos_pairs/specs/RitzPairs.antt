@@ -15,6 +15,7 @@ use Rattle.matvec.specs.Matvec.{rowOf, replaced, added}
 abbrev pub ritzStep : ℕ → ℕ → Vec → Vec → ℕ → ℕ → Vec → Vec
 ritzStep n m q vecs c j x = added n (entry vecs m j c) (rowOf n j q) x
 
+-- `ritzStep` for j = 0 .. m - 1, from +0.0 throughout
 unfoldable pub ritz : ℕ → ℕ → Vec → Vec → ℕ → Vec
 ritz n m q vecs c = upto (ritzStep n m q vecs c) 0 m (zeros n)
 
@@ -30,5 +31,6 @@ pair n k m q vals vecs c t x = replaced (k + t * n) (k + t * n + n) (levelled n 
 abbrev pub pairStep : ℕ → ℕ → ℕ → Vec → Vec → Vec → List ℕ → ℕ → Vec → Vec
 pairStep n k m q vals vecs o t x = pair n k m q vals vecs (getD o t 0) t x
 
+-- `pairStep` for t = 0 .. found - 1
 unfoldable pub pairs : ℕ → ℕ → ℕ → ℕ → Vec → Vec → Vec → List ℕ → Vec → Vec
 pairs n k m found q vals vecs o x = upto (pairStep n k m q vals vecs o) 0 found x

@@ -12,5 +12,6 @@ triStep m al be i t =
     let u = putEntry t m i i (at al i) in
     cond (ltb (i + 1) m) (putEntry (putEntry u m i (i + 1) (at be i)) m (i + 1) i (at be i)) u
 
+-- `triStep` for i = 0 .. m - 1
 unfoldable pub tri : ℕ → Vec → Vec → Vec → Vec
 tri m al be t = upto (triStep m al be) 0 m t

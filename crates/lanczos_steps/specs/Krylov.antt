@@ -48,5 +48,6 @@ step n a j q al be v =
 unfoldable pub stepIfOn : ℕ → Vec → ℕ → LanczosState → LanczosState
 stepIfOn n a j (r, q, al, be, v) = cond (r .on) (step n a j q al be v) (r, q, al, be, v)
 
+-- from the vector v: j = 0 .. s - 1
 unfoldable pub steps : ℕ → ℕ → Vec → Vec → Vec → Vec → Vec → LanczosState
 steps n s a q al be v = upto (stepIfOn n a) 0 s (went true (done 0) 0, q, al, be, v)

@@ -15,6 +15,7 @@ magnitude (fin s m e) = fin false m e
 unfoldable pub larger : Float → Float → Float
 larger a b = cond (lt a b) b a
 
+-- neither a NaN nor infinite
 unfoldable pub isFinite : Float → Bool
 isFinite nan = false
 isFinite (inf s) = false

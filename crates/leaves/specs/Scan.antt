@@ -19,6 +19,7 @@ classOf nan = 10
 classOf (inf s) = 8
 classOf (fin s m e) = 8
 
+-- one was found
 abbrev pub isBad : Bad → Bool
 isBad (At k c) = true
 isBad Nowhere = false
@@ -31,6 +32,7 @@ found x k n = cond (ltb k n) (At k (classOf (x k))) Nowhere
 unfoldable pub scan : (ℕ → Float) → ℕ → Bad
 scan x n = found x (first (λ k. not (isFinite (x k))) 0 n) n
 
+-- the first number of a list that is not finite
 abbrev pub firstBad : Vec → Bad
 firstBad d = scan (at d) (length d)
 
@@ -46,6 +48,7 @@ lowerOf p x = cond (leb (p .j) (p .i)) x zero64
 abbrev pub lowerAt : ℕ → Vec → ℕ → Float
 lowerAt n a k = lowerOf (placeOf n k) (at a k)
 
+-- the first number that is not finite on or below the diagonal of the matrix a, which stands row by row with n in a row
 unfoldable pub firstBadLower : ℕ → Vec → Bad
 firstBadLower n a = scan (lowerAt n a) (length a)
 

@@ -21,6 +21,7 @@ replaced a e ys d = take a d ++ (ys ++ drop (e - a) (drop a d))
 abbrev pub rowStep : ℕ → Vec → Vec → ℕ → ℕ → Float → Float
 rowStep n a v i j acc = acc ⊕ entry a n i j ⊗ at v j
 
+-- row i of a times v, summed over j from 0 on, starting at +0.0
 abbrev pub rowDot : ℕ → Vec → Vec → ℕ → Float
 rowDot n a v i = upto (rowStep n a v i) 0 n zero64
 
@@ -32,6 +33,7 @@ product n a v = table (rowDot n a v) n
 abbrev pub addStep : Float → Vec → ℕ → Vec → Vec
 addStep f u i w = set w i (at w i ⊕ f ⊗ at u i)
 
+-- `scaled_add` at each of the n places
 unfoldable pub added : ℕ → Float → Vec → Vec → Vec
 added n f u w = upto (addStep f u) 0 n w
 

@@ -14,6 +14,7 @@ use Rattle.gram_schmidt.specs.Unit.{finished}
 
 -- ---- the run: the four numbers, and q
 
+-- column j against those before it, twice, and then over its norm
 unfoldable pub column : ℕ → ℕ → ℕ → Vec → Answer × Vec
 column m k j q =
     let c = lessColumnsTwice m k j q (columnOf m k q j) in
@@ -23,6 +24,7 @@ column m k j q =
 abbrev pub columnStep : ℕ → ℕ → ℕ → Answer × Vec → Answer × Vec
 columnStep m k j s = cond (passed (s .0)) (column m k j (s .1)) s
 
+-- every column: j = 0 .. k - 1
 unfoldable pub columns : ℕ → ℕ → Vec → Answer × Vec
 columns m k a = upto (columnStep m k) 0 k (done 0, a)
 
@@ -34,6 +36,7 @@ checks m k a x =
     cond (ltb 256 m || ltb 256 k) (refused 1 0)
     (lengths a (m * k) x (m * k) 0 0)
 
+-- 1 and 6 leave the answer x as it was; refusal 7 looks at the matrix a
 unfoldable pub qrQ : ℕ → ℕ → Vec → Vec → Answer × Vec
 qrQ m k a x =
     let check = checks m k (length a) (length x) in

@@ -8,6 +8,7 @@ use lib.Ieee.{Float, nan, inf, fin, binary64, up, down, round}
 abbrev pub next : ℕ → ℕ → ℕ
 next n s = cond (leb ((s * 2 + 1) * (s * 2 + 1)) n) (s * 2 + 1) (s * 2)
 
+-- The whole root of n, for an n below 4 ^ k: k times `next`, a binary digit at a time.
 unfoldable pub whole : ℕ → ℕ → ℕ
 whole zero n = 0
 whole (suc k) n = next n (whole k (n / 4))
@@ -24,6 +25,7 @@ unfoldable pub rootOf : ℕ → Float
 unfolding whole round
 rootOf u = round binary64 false (2 * whole 1600 (4 * (u * 2 ^ 1074)) + 1) (2 ^ 1076)
 
+-- The square root: of a zero of either sign and of +infinity itself, of a NaN and of what is below 0 the NaN, of any other number `rootOf` its units.
 unfoldable pub root : Float → Float
 unfolding rootOf
 root nan = nan

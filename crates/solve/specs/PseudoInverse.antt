@@ -21,9 +21,11 @@ pinvStep r n tol s u vt j i k acc = acc ⊕ entry vt n k j ⊗ inverse tol (at s
 unfoldable pub pinvSum : ℕ → ℕ → Float → Vec → Vec → Vec → ℕ → ℕ → Float
 pinvSum r n tol s u vt j i = upto (pinvStep r n tol s u vt j i) 0 r zero64
 
+-- row j of A^+: i = 0 .. m - 1
 abbrev pub pinvRow : ℕ → ℕ → ℕ → Float → Vec → Vec → Vec → ℕ → Vec
 pinvRow m r n tol s u vt j = table (pinvSum r n tol s u vt j) m
 
+-- A^+ of the decomposition d, row by row: j = 0 .. n - 1
 unfoldable pub inverted : ℕ → ℕ → Float → Vec → Vec
 inverted m n tol d =
     let r = least m n in

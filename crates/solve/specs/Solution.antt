@@ -12,12 +12,15 @@ use Rattle.answers.specs.Answers.{least}
 
 -- ---- the parts of a decomposition
 
+-- the r values
 abbrev pub valuesOf : ℕ → Vec → Vec
 valuesOf r d = take r d
 
+-- U, m by r, behind the values
 abbrev pub uOf : ℕ → ℕ → Vec → Vec
 uOf m r d = part r (r + m * r) d
 
+-- V^T, r by n, behind U
 abbrev pub vtOf : ℕ → ℕ → Vec → Vec
 vtOf m r d = part (r + m * r) (length d) d
 
@@ -27,6 +30,7 @@ vtOf m r d = part (r + m * r) (length d) d
 abbrev pub columnStep : ℕ → Vec → Vec → ℕ → ℕ → Float → Float
 columnStep cols a v j i acc = acc ⊕ entry a cols i j ⊗ at v i
 
+-- column j of a by v, summed from row 0 on, starting at +0.0
 unfoldable pub columnSum : ℕ → ℕ → Vec → Vec → ℕ → Float
 columnSum rows cols a v j = upto (columnStep cols a v j) 0 rows zero64
 
@@ -34,6 +38,7 @@ columnSum rows cols a v j = upto (columnStep cols a v j) 0 rows zero64
 unfoldable pub coefficient : Float → Float → Float → Float
 coefficient tol sv acc = cond (lt tol sv) (acc ⊘ sv) zero64
 
+-- c[k] is column k of U by b, over value k where that counts, else 0; x[j] is column j of V^T by c
 unfoldable pub solution : ℕ → ℕ → Float → Vec → Vec → Vec
 solution m n tol d b =
     let r = least m n in

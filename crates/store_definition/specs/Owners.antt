@@ -16,6 +16,7 @@ use Rattle.store_definition.specs.Store.{roomOf, Outcome, kept, putOf, l
 abbrev pub part : List ℕ → ℕ → ℕ → List ℕ
 part l a n = take n (drop a l)
 
+-- l with p in place of the n elements from a on
 abbrev pub patched : List ℕ → ℕ → ℕ → List ℕ → List ℕ
 patched l a n p = take a l ++ (p ++ drop n (drop a l))
 
@@ -23,6 +24,7 @@ patched l a n p = take a l ++ (p ++ drop n (drop a l))
 abbrev pub quotaOf : ℕ → List ℕ → ℕ
 quotaOf owner list = getD list (1 + owner * 34) 0
 
+-- where an owner's bytes start: 0, or behind owner 0's
 abbrev pub startFor : ℕ → List ℕ → ℕ
 startFor owner list = owner * quotaOf 0 list
 
@@ -56,12 +58,15 @@ module _ (list tiles bytes : List ℕ) where
   reset = cond (not (laid list tiles bytes)) (refused 39 0, list) (done 0, set (set list 2 0) 36 0)
 
 module _ (owner : ℕ) (list tiles bytes : List ℕ) where
+  -- the owner's part of list
   abbrev pub ownList : List ℕ
   ownList = part list (1 + owner * 34) 34
 
+  -- the owner's part of tiles
   abbrev pub ownTiles : List ℕ
   ownTiles = part tiles (owner * 32) 32
 
+  -- the owner's part of the buffer
   abbrev pub ownBytes : List ℕ
   ownBytes = part bytes (startFor owner list) (quotaOf owner list)
 
@@ -74,24 +79,28 @@ module _ (owner : ℕ) (list tiles bytes : List ℕ) where
     patched bytes (startFor owner list) (quotaOf owner list) b,
   )
 
+  -- 34 or 39; else the put of the owner's store
   unfoldable pub putFor : ℕ → List ℕ → Outcome
   putFor t block =
       cond (eqb (barred owner list tiles bytes) 0)
       (back (putOf 32 ownList ownTiles ownBytes t block))
       (kept list tiles bytes (barred owner list tiles bytes))
 
+  -- 34 or 39; else the length in the owner's store
   unfoldable pub lengthFor : ℕ → Answer
   lengthFor t =
       cond (eqb (barred owner list tiles bytes) 0)
       (lengthHeld 32 ownList ownTiles ownBytes t)
       (refused (barred owner list tiles bytes) 0)
 
+  -- 34 or 39, out as it was; else the fetch from the owner's store
   unfoldable pub fetchFor : ℕ → List ℕ → Answer × List ℕ
   fetchFor t out =
       cond (eqb (barred owner list tiles bytes) 0)
       (fetchOf 32 ownList ownTiles ownBytes t out)
       (refused (barred owner list tiles bytes) 0, out)
 
+  -- 34 or 39; else the drop of the owner's store
   unfoldable pub dropFor : ℕ → Outcome
   dropFor t =
       cond (eqb (barred owner list tiles bytes) 0)

@@ -18,6 +18,7 @@ unfoldable pub place : ℕ → List ℕ → ℕ
 place t [] = 0
 place t (x ∷ l) = cond (eqb x t) 0 (suc (place t l))
 
+-- all numbers of a list together
 unfoldable pub sum : List ℕ → ℕ
 sum [] = 0
 sum (x ∷ l) = x + sum l
@@ -31,9 +32,11 @@ distinct (x ∷ l) = cond (ltb (place x l) (length l)) false (distinct l)
 abbrev pub closed : {A : Type 0} → List A → ℕ → ℕ → ℕ → List A
 closed l at w n = paste l at (drop (at + w) l) (n - (at + w))
 
+-- the room
 abbrev pub roomOf : List ℕ → ℕ
 roomOf list = getD list 0 0
 
+-- how many blocks are held
 abbrev pub heldOf : List ℕ → ℕ
 heldOf list = getD list 1 0
 
@@ -41,6 +44,7 @@ heldOf list = getD list 1 0
 abbrev pub lengthAt : List ℕ → ℕ → ℕ
 lengthAt list k = getD list (2 + k) 0
 
+-- where the block in entry k starts
 abbrev pub startOf : List ℕ → ℕ → ℕ
 startOf list k = sum (take k (drop 2 list))
 
@@ -67,9 +71,11 @@ module _ (list tiles bytes : List ℕ) where
   abbrev pub entryOf : ℕ → ℕ
   entryOf t = place t (take (heldOf list) tiles)
 
+  -- the tile has an entry
   abbrev pub holds : ℕ → Bool
   holds t = ltb (entryOf t) (heldOf list)
 
+  -- refused with a, and the arrays as they were
   abbrev pub kept : ℕ → Outcome
   kept a = (refused a 0, list, tiles, bytes)
 
@@ -99,6 +105,7 @@ module _ (entries : ℕ) (list tiles bytes : List ℕ) where
       (cond (not (listed entries list tiles)) (refused 39 0, list)
       (done 0, set (set list 0 (length bytes)) 1 0))
 
+  -- 39, 31, 33 and 30, in this order; else the block is added
   unfoldable pub putOf : ℕ → List ℕ → Outcome
   putOf t block =
       cond (not (sound entries list tiles bytes)) (kept list tiles bytes 39)
@@ -122,6 +129,7 @@ module _ (entries : ℕ) (list tiles bytes : List ℕ) where
       (cond (not (eqb (length out) (lengthAt list (entryOf list tiles bytes t)))) (refused 6 0, out)
       (done 0, take (length out) (drop (startOf list (entryOf list tiles bytes t)) bytes))))
 
+  -- 39, then 32; else the block is removed
   unfoldable pub dropOf : ℕ → Outcome
   dropOf t =
       cond (not (sound entries list tiles bytes)) (kept list tiles bytes 39)

@@ -24,9 +24,11 @@ source m n a i j = cond (ltb m n) (entry a n j i) (entry a n i j)
 abbrev pub loadStep : ℕ → ℕ → ℕ → Vec → ℕ → ℕ → Vec → Vec
 loadStep m n rows a j i w = set w (j * rows + i) (source m n a i j)
 
+-- column j: i = 0 .. rows - 1
 unfoldable pub columnLoaded : ℕ → ℕ → ℕ → Vec → ℕ → Vec → Vec
 columnLoaded m n rows a j w = upto (loadStep m n rows a j) 0 rows w
 
+-- all columns: j = 0 .. cols - 1
 unfoldable pub matrixLoaded : ℕ → ℕ → ℕ → ℕ → Vec → Vec → Vec
 matrixLoaded m n rows cols a w = upto (columnLoaded m n rows a) 0 cols w
 
@@ -34,9 +36,11 @@ matrixLoaded m n rows cols a w = upto (columnLoaded m n rows a) 0 cols w
 abbrev pub eyeStep : ℕ → ℕ → ℕ → Vec → Vec
 eyeStep rows cols j w = set w (rows * cols + j * cols + j) one64
 
+-- `eyeStep` for j = 0 .. cols - 1
 unfoldable pub eyed : ℕ → ℕ → Vec → Vec
 eyed rows cols w = upto (eyeStep rows cols) 0 cols w
 
+-- what is worked on, and the identity behind it
 unfoldable pub loaded : ℕ → ℕ → Vec → Vec → Vec
 loaded m n a w = eyed (longest m n) (least m n) (matrixLoaded m n (longest m n) (least m n) a w)
 
@@ -54,6 +58,7 @@ ran m n wantU wantVt limit matrix work result =
     let x = jacobi (longest m n) (least m n) limit (loaded m n matrix work) in
     (x .0, zeros (length work), cond (passed (x .0)) (sortedOut m n wantU wantVt (x .1) result) result)
 
+-- 1, 2 and 6 leave work and result as they were, 7 makes both all +0.0; else the run
 unfoldable pub svd : ℕ → ℕ → ℕ → ℕ → ℕ → Vec → Vec → Vec → Answer × Vec × Vec
 svd m n wantU wantVt limit matrix work result =
     let c = checks m n wantU wantVt limit (length matrix) (length work) (length result) in

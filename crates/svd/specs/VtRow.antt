@@ -9,6 +9,7 @@ use Rattle.svd.specs.declared.vt_row.Extent.{Extent}
 use Rattle.svd.specs.declared.vt_row.Span.{Span}
 use Rattle.svd.specs.declared.vt_row.Span.the-variants.{At, Missing}
 
+-- the first span where the test holds, else the second
 abbrev pub pick : Bool → Span → Span → Span
 pick true a b = a
 pick false a b = b

@@ -20,6 +20,7 @@ goingAfter count = answered 9 count 0 count
 unfoldable pub verdict : Bad → Bool → ℕ → Answer
 verdict b changed count = cond (isBad b) (marked 1 count b) (cond changed (goingAfter count) (done count))
 
+-- one sweep more, and what is said after it
 unfoldable pub swept : ℕ → ℕ → Answer × Vec → Answer × Vec
 swept rows cols (a, w) =
     let y = sweep rows cols w in
@@ -39,6 +40,7 @@ finished rows cols (a, w) =
     let y = normalised rows cols w in
     (marked 2 (a .count) (allBad rows cols y), y)
 
+-- the sweeps; where they settled, the values and mark 2
 unfoldable pub jacobi : ℕ → ℕ → ℕ → Vec → Answer × Vec
 jacobi rows cols limit w =
     let x = sweeps rows cols limit w in

@@ -14,12 +14,15 @@ use Rattle.svd_jacobi_svd_tall.specs.declared.sweep.Rotation.{Rotation}
 
 -- ---- where the parts of w stand
 
+-- where column p of u begins
 abbrev pub uAt : ℕ → ℕ → ℕ
 uAt rows p = p * rows
 
+-- where column p of v begins
 abbrev pub vAt : ℕ → ℕ → ℕ → ℕ
 vAt rows cols p = rows * cols + p * cols
 
+-- where the value of column j stands
 abbrev pub valueAt : ℕ → ℕ → ℕ → ℕ
 valueAt rows cols j = rows * cols + cols * cols + j
 
@@ -32,6 +35,7 @@ gramStep a b w i x =
     let uq = at w (b + i) in
     record { alpha = x .alpha ⊕ up ⊗ up; beta = x .beta ⊕ uq ⊗ uq; gamma = x .gamma ⊕ up ⊗ uq }
 
+-- `gramStep` for i = 0 .. rows - 1, each sum from +0.0
 unfoldable pub gram : ℕ → ℕ → ℕ → Vec → Sums
 gram a b rows w = upto (gramStep a b w) 0 rows (record { alpha = zero64; beta = zero64; gamma = zero64 })
 
@@ -43,6 +47,7 @@ skipped x = eq (x .gamma) zero64 || le (magnitude (x .gamma)) (epsilon ⊗ root 
 abbrev pub signOf : Float → Float
 signOf zeta = cond (le zero64 zeta) one64 (neg one64)
 
+-- the rotation of a pair, by way of zeta: its c, s and t
 unfoldable pub rotationOf : Sums → Rotation
 rotationOf x =
     let zeta = (x .beta ⊖ x .alpha) ⊘ (two64 ⊗ x .gamma) in
@@ -57,6 +62,7 @@ rotateStep a b rot i w =
     let uq = at w (b + i) in
     set (set w (a + i) (rot .c ⊗ up ⊖ rot .s ⊗ uq)) (b + i) (rot .s ⊗ up ⊕ rot .c ⊗ uq)
 
+-- `rotateStep` for i = 0 .. rows - 1
 unfoldable pub rotated : ℕ → ℕ → ℕ → Rotation → Vec → Vec
 rotated a b rows rot w = upto (rotateStep a b rot) 0 rows w
 
@@ -70,8 +76,10 @@ pairDone rows cols p q x =
 
 -- ---- one sweep
 
+-- column p with every column behind it: q = p + 1 .. cols - 1
 unfoldable pub pairsOf : ℕ → ℕ → ℕ → Bool × Vec → Bool × Vec
 pairsOf rows cols p x = upto (pairDone rows cols p) (p + 1) cols x
 
+-- every pair: p = 0 .. cols - 1. The flag is false before the first
 unfoldable pub sweep : ℕ → ℕ → Vec → Bool × Vec
 sweep rows cols w = upto (pairsOf rows cols) 0 cols (false, w)

@@ -21,6 +21,7 @@ workLength m n = longest m n * least m n + least m n * least m n + least m n
 abbrev pub cellStep : ℕ → ℕ → ℕ → Vec → ℕ → Vec → Vec
 cellStep from to down w i res = set res (to + i * down) (at w (from + i))
 
+-- `cellStep` for i = 0 .. rows - 1: a column goes out
 unfoldable pub columnOut : ℕ → ℕ → ℕ → ℕ → Vec → Vec → Vec
 columnOut from rows to down w res = upto (cellStep from to down w) 0 rows res
 
@@ -28,6 +29,7 @@ columnOut from rows to down w res = upto (cellStep from to down w) 0 rows res
 abbrev pub sortStep : ℕ → ℕ → ℕ → ℕ → ℕ → Vec → List ℕ → ℕ → Vec → Vec
 sortStep from rows to down across w o k res = columnOut (from + getD o k 0 * rows) rows (to + k * across) down w res
 
+-- `sortStep` for k = 0 .. cols - 1: a factor goes out, its columns in the order o
 unfoldable pub factorOut : ℕ → ℕ → ℕ → ℕ → ℕ → ℕ → Vec → List ℕ → Vec → Vec
 factorOut cols from rows to down across w o res = upto (sortStep from rows to down across w o) 0 cols res
 
@@ -45,6 +47,7 @@ rowsOut f r to w o res = factorOut (f .cols) (f .from) (f .rows) to r 1 w o res
 abbrev pub transposedOut : Factor → ℕ → Vec → List ℕ → Vec → Vec
 transposedOut f to w o res = factorOut (f .cols) (f .from) (f .rows) to 1 (f .rows) w o res
 
+-- k where b holds, else 0
 abbrev pub offset : Bool → ℕ → ℕ
 offset b k = cond b k 0
 

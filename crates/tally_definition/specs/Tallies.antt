@@ -9,9 +9,11 @@ use Rattle.tally_definition.specs.Figures.{inRange}
 use Rattle.tally_definition.specs.declared.Tally.{Tally}
 use Rattle.tally_definition.specs.declared.Reply.{Reply}
 
+-- the count of answer a is at most 65,536
 abbrev pub smallAt : List ℕ → ℕ → Bool
 smallAt counts a = leb (getD counts a 0) 65536
 
+-- the counts of all answers, 0 to 15, are at most 65,536
 unfoldable pub small : List ℕ → Bool
 small counts = every (smallAt counts) 16
 
@@ -23,6 +25,7 @@ fit t = ltb (t .tiles) 65536 && (leb (t .passes) 1006632960 && (leb (t .most) 15
 unfoldable pub first-of : Bool → Bool → ℕ
 first-of inside room = cond inside (cond room 0 36) 38
 
+-- what adding this tile is refused with, or 0
 unfoldable pub refusal : Tally → ℕ → ℕ → ℕ
 refusal t answer passes = first-of (inRange answer passes) (fit t)
 

@@ -10,6 +10,7 @@ pub struct Tally {
     pub first: usize,
 }
 
+// What comes of adding a tile: the refusal, 0 where there is none, and the tally afterwards.
 pub struct Reply {
     pub refusal: usize,
     pub tally: Tally,
