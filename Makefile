@@ -2,6 +2,8 @@
 # make test          the gate, what .ci/run calls: what is quick to look at; rt ci, which proves everything from nothing; over what it proved
 #                    the archive, the C tests, the example. rt's line, 'N passed, 0 failed', is the last, if all of it passed
 # make example       the examples in C, built and run: a codec, a decode loop, one that keeps 8 of 256 components
+# make example-openjpeg
+#                    a hyperspectral codec over OpenJPEG, where Debian's libopenjp2-7-dev is there (examples/spectral)
 # make believe       what a reader must believe, in reading order, into build/believe.txt: the contracts that C sees, the theorems' statements, the definitions of both;
 #                    docs/believe.txt is that text, and the gate holds the tree to it (tools/believe.mk)
 # make book          the definitions beside document 000, as pages to read, into build/book (tools/book.mk)
@@ -28,6 +30,7 @@ include tools/believe.mk
 include tools/book.mk
 include tools/wings.mk
 include tools/pencil.mk
+include examples/spectral/spectral.mk
 include oracle/oracle.mk
 
 # tools/gate.sh names what it runs, and takes no variable of make's.

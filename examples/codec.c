@@ -212,6 +212,17 @@ static int invert_small(void)
     return difference < 1e-9;
 }
 
+/* Whether a part was copied and the tile's own block is not refused: in its stead the main one's part would have come. */
+static int copied(struct crewelmarsh_answer a)
+{
+    if (!done("block_copy", a))
+        return 0;
+    if (a.place == CREWELMARSH_DONE)
+        return 1;
+    printf("block_copy: the own block has %zu (%s)\n", a.place, crewelmarsh_text(a.place));
+    return 0;
+}
+
 /* The values and vectors as a block, the numbers of which a decoder gets back bit for bit. The tile's own block has values
    alone, so that they come from there and the vectors from the main header. */
 static int pass_as_block(void)
@@ -235,12 +246,17 @@ static int pass_as_block(void)
     printf("block: %zu bytes, %zu by %zu, %zu parts\n", main_len, about.rows, about.columns, about.parts);
 
     at = crewelmarsh_block_find(own, own_len, main_block, main_len, CREWELMARSH_MATRIX);
-    printf("block: vectors from block %zu, offset %zu, %zu numbers\n", at.block, at.start, at.count);
-    if (!done("block_copy", crewelmarsh_block_copy(own, own_len, main_block, main_len, CREWELMARSH_VALUES, values_back, BANDS)) ||
-        !done("block_copy", crewelmarsh_block_copy(own, own_len, main_block, main_len, CREWELMARSH_MATRIX, vectors_back, BANDS * BANDS)))
+    printf("block: vectors from block %zu, offset %zu, %zu numbers, %zu by %zu\n", at.block, at.start, at.count, at.rows, at.columns);
+    if (at.own_answer != CREWELMARSH_DONE || at.rows != BANDS || at.columns != BANDS)
+        return 0;
+    if (!copied(crewelmarsh_block_copy(own, own_len, main_block, main_len, CREWELMARSH_VALUES, values_back, BANDS)) ||
+        !copied(crewelmarsh_block_copy(own, own_len, main_block, main_len, CREWELMARSH_MATRIX, vectors_back, BANDS * BANDS)))
         return 0;
     about = crewelmarsh_block_check(main_block, main_len - 1);
     printf("block cut by a byte: answer %zu (%s)\n", about.answer, crewelmarsh_text(about.answer));
+    own[19] ^= 1; /* the values' offset */
+    at = crewelmarsh_block_find(own, own_len, main_block, main_len, CREWELMARSH_VALUES);
+    printf("own block with a byte wrong: answer %zu (%s), values from block %zu\n", at.own_answer, crewelmarsh_text(at.own_answer), at.block);
     return largest_difference(own_values, values_back, BANDS) == 0 && largest_difference(vectors, vectors_back, BANDS * BANDS) == 0;
 }
 
@@ -269,7 +285,7 @@ static int take_next(size_t image, uint16_t *next)
     while (crewelmarsh_store_length(image, STORE, *next).answer == CREWELMARSH_DONE) {
         if (!done("store_fetch", crewelmarsh_store_fetch(image, STORE, *next, block, sizeof block)) ||
             !done("store_drop", crewelmarsh_store_drop(image, STORE, *next)) ||
-            !done("block_copy", crewelmarsh_block_copy(block, sizeof block, NULL, 0, CREWELMARSH_VALUES, own, BANDS)) ||
+            !copied(crewelmarsh_block_copy(block, sizeof block, NULL, 0, CREWELMARSH_VALUES, own, BANDS)) ||
             own[0] != (double)image || own[1] != *next)
             return 0;
         printf(" %u", *next);

@@ -65,54 +65,54 @@ struct Shape {
 }
 
 entries! {
-    fn crewelmarsh_symmetric_eigen_abi4(n: usize, limit: usize, edition: usize, matrix: *const f64, matrix_len: usize, work: *mut f64,
+    fn crewelmarsh_symmetric_eigen_abi5(n: usize, limit: usize, edition: usize, matrix: *const f64, matrix_len: usize, work: *mut f64,
         work_len: usize, result: *mut f64, result_len: usize) -> Answer;
-    fn crewelmarsh_svd_abi4(m: usize, n: usize, want_u: usize, want_vt: usize, limit: usize, matrix: *const f64, matrix_len: usize,
+    fn crewelmarsh_svd_abi5(m: usize, n: usize, want_u: usize, want_vt: usize, limit: usize, matrix: *const f64, matrix_len: usize,
         work: *mut f64, work_len: usize, result: *mut f64, result_len: usize) -> Answer;
-    fn crewelmarsh_solve_abi4(m: usize, n: usize, has_u: usize, has_vt: usize, tolerance: f64, decomposition: *const f64,
+    fn crewelmarsh_solve_abi5(m: usize, n: usize, has_u: usize, has_vt: usize, tolerance: f64, decomposition: *const f64,
         decomposition_len: usize, right_side: *const f64, right_side_len: usize, answer: *mut f64, answer_len: usize) -> Answer;
-    fn crewelmarsh_pseudo_inverse_abi4(m: usize, n: usize, has_u: usize, has_vt: usize, tolerance: f64, decomposition: *const f64,
+    fn crewelmarsh_pseudo_inverse_abi5(m: usize, n: usize, has_u: usize, has_vt: usize, tolerance: f64, decomposition: *const f64,
         decomposition_len: usize, answer: *mut f64, answer_len: usize) -> Answer;
-    fn crewelmarsh_qr_q_abi4(m: usize, k: usize, matrix: *const f64, matrix_len: usize, answer: *mut f64, answer_len: usize) -> Answer;
-    fn crewelmarsh_block_check_abi4(block: *const u8, block_len: usize) -> Shape;
-    fn crewelmarsh_block_copy_abi4(own: *const u8, own_len: usize, main_block: *const u8, main_len: usize, kind: usize, out: *mut f64,
+    fn crewelmarsh_qr_q_abi5(m: usize, k: usize, matrix: *const f64, matrix_len: usize, answer: *mut f64, answer_len: usize) -> Answer;
+    fn crewelmarsh_block_check_abi5(block: *const u8, block_len: usize) -> Shape;
+    fn crewelmarsh_block_copy_abi5(own: *const u8, own_len: usize, main_block: *const u8, main_len: usize, kind: usize, out: *mut f64,
         out_len: usize) -> Answer;
-    fn crewelmarsh_block_write_abi4(rows: usize, columns: usize, parts: usize, kind1: usize, numbers1: *const f64, len1: usize,
+    fn crewelmarsh_block_write_abi5(rows: usize, columns: usize, parts: usize, kind1: usize, numbers1: *const f64, len1: usize,
         kind2: usize, numbers2: *const f64, len2: usize, kind3: usize, numbers3: *const f64, len3: usize, out: *mut u8, out_len: usize) -> Answer;
-    fn crewelmarsh_covariance_abi4(n: usize, count: usize, samples: *const i16, samples_len: usize, matrix: *mut f64, matrix_len: usize) -> Answer;
-    fn crewelmarsh_store_setup_abi4(quota0: usize, quota1: usize, list: *mut usize, list_len: usize, tiles: *const u16, tiles_len: usize, bytes: *const u8, bytes_len: usize) -> Answer;
-    fn crewelmarsh_store_put_abi4(owner: usize, list: *mut usize, list_len: usize, tiles: *mut u16, tiles_len: usize, bytes: *mut u8, bytes_len: usize, tile: u16,
+    fn crewelmarsh_covariance_abi5(n: usize, count: usize, samples: *const i16, samples_len: usize, matrix: *mut f64, matrix_len: usize) -> Answer;
+    fn crewelmarsh_store_setup_abi5(quota0: usize, quota1: usize, list: *mut usize, list_len: usize, tiles: *const u16, tiles_len: usize, bytes: *const u8, bytes_len: usize) -> Answer;
+    fn crewelmarsh_store_put_abi5(owner: usize, list: *mut usize, list_len: usize, tiles: *mut u16, tiles_len: usize, bytes: *mut u8, bytes_len: usize, tile: u16,
         block: *const u8, block_len: usize) -> Answer;
-    fn crewelmarsh_store_length_abi4(owner: usize, list: *const usize, list_len: usize, tiles: *const u16, tiles_len: usize, bytes: *const u8, bytes_len: usize,
+    fn crewelmarsh_store_length_abi5(owner: usize, list: *const usize, list_len: usize, tiles: *const u16, tiles_len: usize, bytes: *const u8, bytes_len: usize,
         tile: u16) -> Answer;
-    fn crewelmarsh_store_fetch_abi4(owner: usize, list: *const usize, list_len: usize, tiles: *const u16, tiles_len: usize, bytes: *const u8, bytes_len: usize,
+    fn crewelmarsh_store_fetch_abi5(owner: usize, list: *const usize, list_len: usize, tiles: *const u16, tiles_len: usize, bytes: *const u8, bytes_len: usize,
         tile: u16, out: *mut u8, out_len: usize) -> Answer;
-    fn crewelmarsh_store_drop_abi4(owner: usize, list: *mut usize, list_len: usize, tiles: *mut u16, tiles_len: usize, bytes: *mut u8, bytes_len: usize, tile: u16) -> Answer;
+    fn crewelmarsh_store_drop_abi5(owner: usize, list: *mut usize, list_len: usize, tiles: *mut u16, tiles_len: usize, bytes: *mut u8, bytes_len: usize, tile: u16) -> Answer;
 }
 
 fn eigen(n: usize, edition: usize, matrix: &[f64], work: &mut [f64], result: &mut [f64]) -> Answer {
     let (a, w, r) = (matrix.len(), work.len(), result.len());
-    unsafe { crewelmarsh_symmetric_eigen_abi4(n, 60, edition, matrix.as_ptr(), a, work.as_mut_ptr(), w, result.as_mut_ptr(), r) }
+    unsafe { crewelmarsh_symmetric_eigen_abi5(n, 60, edition, matrix.as_ptr(), a, work.as_mut_ptr(), w, result.as_mut_ptr(), r) }
 }
 
 fn svd(n: usize, matrix: &[f64], work: &mut [f64], result: &mut [f64]) -> Answer {
     let (a, w, r) = (matrix.len(), work.len(), result.len());
-    unsafe { crewelmarsh_svd_abi4(n, n, 1, 1, 60, matrix.as_ptr(), a, work.as_mut_ptr(), w, result.as_mut_ptr(), r) }
+    unsafe { crewelmarsh_svd_abi5(n, n, 1, 1, 60, matrix.as_ptr(), a, work.as_mut_ptr(), w, result.as_mut_ptr(), r) }
 }
 
 fn solve(n: usize, given: &[f64], right: &[f64], answer: &mut [f64]) -> Answer {
     let (g, b, a) = (given.len(), right.len(), answer.len());
-    unsafe { crewelmarsh_solve_abi4(n, n, 1, 1, 0.0, given.as_ptr(), g, right.as_ptr(), b, answer.as_mut_ptr(), a) }
+    unsafe { crewelmarsh_solve_abi5(n, n, 1, 1, 0.0, given.as_ptr(), g, right.as_ptr(), b, answer.as_mut_ptr(), a) }
 }
 
 fn pseudo_inverse(n: usize, given: &[f64], answer: &mut [f64]) -> Answer {
     let (g, a) = (given.len(), answer.len());
-    unsafe { crewelmarsh_pseudo_inverse_abi4(n, n, 1, 1, 0.0, given.as_ptr(), g, answer.as_mut_ptr(), a) }
+    unsafe { crewelmarsh_pseudo_inverse_abi5(n, n, 1, 1, 0.0, given.as_ptr(), g, answer.as_mut_ptr(), a) }
 }
 
 fn qr_q(n: usize, matrix: &[f64], answer: &mut [f64]) -> Answer {
     let (m, a) = (matrix.len(), answer.len());
-    unsafe { crewelmarsh_qr_q_abi4(n, n, matrix.as_ptr(), m, answer.as_mut_ptr(), a) }
+    unsafe { crewelmarsh_qr_q_abi5(n, n, matrix.as_ptr(), m, answer.as_mut_ptr(), a) }
 }
 
 // ---------------------------------------------------------------- inputs
@@ -207,18 +207,18 @@ fn blocks(rng: &mut Random) {
     let mut block = vec![0u8; 48 + 8 * counts.iter().sum::<usize>()];
     let mut plain = vec![0u8; block.len()];
     let write = |given: &[Vec<f64>], to: &mut [u8]| unsafe {
-        crewelmarsh_block_write_abi4(
+        crewelmarsh_block_write_abi5(
             256, 256, 3, 1, given[0].as_ptr(), counts[0], 2, given[1].as_ptr(), counts[1], 3, given[2].as_ptr(), counts[2],
             to.as_mut_ptr(), to.len(),
         )
     };
-    let check = |block: &[u8]| unsafe { crewelmarsh_block_check_abi4(block.as_ptr(), block.len()) };
+    let check = |block: &[u8]| unsafe { crewelmarsh_block_check_abi5(block.as_ptr(), block.len()) };
     let copy = |block: &[u8], out: &mut [Vec<f64>]| {
         let shape = check(block);
         assert!(shape.answer == 0 && (shape.rows, shape.columns, shape.parts) == (256, 256, 3));
         for (to, kind) in out.iter_mut().zip(1..) {
             let done = unsafe {
-                crewelmarsh_block_copy_abi4(std::ptr::null(), 0, block.as_ptr(), block.len(), kind, to.as_mut_ptr(), to.len())
+                crewelmarsh_block_copy_abi5(std::ptr::null(), 0, block.as_ptr(), block.len(), kind, to.as_mut_ptr(), to.len())
             };
             assert_eq!(done.answer, 0);
         }

@@ -1,7 +1,7 @@
 //! Times of the archive's covariance beside the plain triple loop in C, by two compilers, and the float way: to f64, less the mean, then BLAS.
 
 use super::lapack::{Dsyrk, dsyrk};
-use super::{Answer, crewelmarsh_covariance_abi4, least};
+use super::{Answer, crewelmarsh_covariance_abi5, least};
 use oracle::cases::Random;
 use std::hint::black_box;
 
@@ -11,7 +11,7 @@ unsafe extern "C" {
 }
 
 pub fn covariance(n: usize, count: usize, samples: &[i16], matrix: &mut [f64]) -> Answer {
-    unsafe { crewelmarsh_covariance_abi4(n, count, samples.as_ptr(), samples.len(), matrix.as_mut_ptr(), matrix.len()) }
+    unsafe { crewelmarsh_covariance_abi5(n, count, samples.as_ptr(), samples.len(), matrix.as_mut_ptr(), matrix.len()) }
 }
 
 pub fn floats(n: usize, count: usize, samples: &[i16], planes: &mut [f64], matrix: &mut [f64], dsyrk: Dsyrk) {

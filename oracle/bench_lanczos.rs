@@ -4,13 +4,13 @@ use super::*;
 use oracle::plain::platform;
 
 entries! {
-    fn crewelmarsh_lanczos_abi4(n: usize, k: usize, limit: usize, edition: usize, matrix: *const f64, matrix_len: usize, start: *const f64,
+    fn crewelmarsh_lanczos_abi5(n: usize, k: usize, limit: usize, edition: usize, matrix: *const f64, matrix_len: usize, start: *const f64,
         start_len: usize, work: *mut f64, work_len: usize, answer: *mut f64, answer_len: usize) -> Answer;
 }
 
 fn lanczos(n: usize, k: usize, a: &[f64], start: &[f64], work: &mut [f64], answer: &mut [f64]) -> Answer {
     unsafe {
-        crewelmarsh_lanczos_abi4(n, k, 60, 1, a.as_ptr(), a.len(), start.as_ptr(), start.len(), work.as_mut_ptr(), work.len(), answer.as_mut_ptr(), answer.len())
+        crewelmarsh_lanczos_abi5(n, k, 60, 1, a.as_ptr(), a.len(), start.as_ptr(), start.len(), work.as_mut_ptr(), work.len(), answer.as_mut_ptr(), answer.len())
     }
 }
 

@@ -20,22 +20,22 @@ struct Run {
 }
 
 entries! {
-    fn crewelmarsh_eigen_start_abi4(n: usize, limit: usize, edition: usize, matrix: *const f64, matrix_len: usize, work: *mut f64,
+    fn crewelmarsh_eigen_start_abi5(n: usize, limit: usize, edition: usize, matrix: *const f64, matrix_len: usize, work: *mut f64,
         work_len: usize, result: *mut f64, result_len: usize) -> Run;
-    fn crewelmarsh_eigen_step_abi4(run: Run, work: *mut f64, work_len: usize, result: *mut f64, result_len: usize) -> Run;
-    fn crewelmarsh_eigen_finish_abi4(run: Run, work: *mut f64, work_len: usize, result: *mut f64, result_len: usize) -> Run;
+    fn crewelmarsh_eigen_step_abi5(run: Run, work: *mut f64, work_len: usize, result: *mut f64, result_len: usize) -> Run;
+    fn crewelmarsh_eigen_finish_abi5(run: Run, work: *mut f64, work_len: usize, result: *mut f64, result_len: usize) -> Run;
 }
 
 fn start(n: usize, a: &[f64], work: &mut [f64], result: &mut [f64]) -> Run {
-    unsafe { crewelmarsh_eigen_start_abi4(n, 60, 1, a.as_ptr(), a.len(), work.as_mut_ptr(), work.len(), result.as_mut_ptr(), result.len()) }
+    unsafe { crewelmarsh_eigen_start_abi5(n, 60, 1, a.as_ptr(), a.len(), work.as_mut_ptr(), work.len(), result.as_mut_ptr(), result.len()) }
 }
 
 fn step(q: Run, work: &mut [f64], result: &mut [f64]) -> Run {
-    unsafe { crewelmarsh_eigen_step_abi4(q, work.as_mut_ptr(), work.len(), result.as_mut_ptr(), result.len()) }
+    unsafe { crewelmarsh_eigen_step_abi5(q, work.as_mut_ptr(), work.len(), result.as_mut_ptr(), result.len()) }
 }
 
 fn finish(q: Run, work: &mut [f64], result: &mut [f64]) -> Run {
-    unsafe { crewelmarsh_eigen_finish_abi4(q, work.as_mut_ptr(), work.len(), result.as_mut_ptr(), result.len()) }
+    unsafe { crewelmarsh_eigen_finish_abi5(q, work.as_mut_ptr(), work.len(), result.as_mut_ptr(), result.len()) }
 }
 
 fn left(q: &Run) -> bool {

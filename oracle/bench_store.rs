@@ -1,10 +1,10 @@
 //! Times of the archive's store: what a call takes to look the list through and to find its tile, and how fast it moves bytes, beside `memmove`.
 
-use super::{crewelmarsh_store_drop_abi4, crewelmarsh_store_fetch_abi4, crewelmarsh_store_length_abi4, crewelmarsh_store_put_abi4, crewelmarsh_store_setup_abi4, least};
+use super::{crewelmarsh_store_drop_abi5, crewelmarsh_store_fetch_abi5, crewelmarsh_store_length_abi5, crewelmarsh_store_put_abi5, crewelmarsh_store_setup_abi5, least};
 use std::hint::black_box;
 
 const ENTRIES: usize = 32;
-const LIST: usize = 69;
+const LIST: usize = 70;
 const TILES: usize = 64;
 
 /// A store of so many blocks of owner 0, who has the whole buffer, tile 0 the first.
@@ -19,7 +19,7 @@ impl Store {
     fn new(lengths: &[usize]) -> Store {
         let mut s = Store { list: vec![0; LIST], tiles: vec![0; TILES], bytes: vec![0; 65536] };
         let (list, tiles, bytes) = (s.list.as_mut_ptr(), s.tiles.as_ptr(), s.bytes.as_ptr());
-        assert_eq!(unsafe { crewelmarsh_store_setup_abi4(65536, 0, list, LIST, tiles, TILES, bytes, 65536) }.answer, 0);
+        assert_eq!(unsafe { crewelmarsh_store_setup_abi5(65536, 0, list, LIST, tiles, TILES, bytes, 65536) }.answer, 0);
         for (tile, &length) in lengths.iter().enumerate() {
             s.put(tile as u16, &vec![tile as u8; length]);
         }
@@ -28,24 +28,24 @@ impl Store {
 
     fn put(&mut self, tile: u16, block: &[u8]) {
         let (list, tiles, bytes) = (self.list.as_mut_ptr(), self.tiles.as_mut_ptr(), self.bytes.as_mut_ptr());
-        let done = unsafe { crewelmarsh_store_put_abi4(0, list, LIST, tiles, TILES, bytes, 65536, tile, block.as_ptr(), block.len()) };
+        let done = unsafe { crewelmarsh_store_put_abi5(0, list, LIST, tiles, TILES, bytes, 65536, tile, block.as_ptr(), block.len()) };
         assert_eq!(done.answer, 0);
     }
 
     fn length(&self, tile: u16) -> usize {
         let (list, tiles, bytes) = (self.list.as_ptr(), self.tiles.as_ptr(), self.bytes.as_ptr());
-        unsafe { crewelmarsh_store_length_abi4(0, list, LIST, tiles, TILES, bytes, 65536, tile) }.count
+        unsafe { crewelmarsh_store_length_abi5(0, list, LIST, tiles, TILES, bytes, 65536, tile) }.count
     }
 
     fn fetch(&self, tile: u16, out: &mut [u8]) {
         let (list, tiles, bytes) = (self.list.as_ptr(), self.tiles.as_ptr(), self.bytes.as_ptr());
-        let done = unsafe { crewelmarsh_store_fetch_abi4(0, list, LIST, tiles, TILES, bytes, 65536, tile, out.as_mut_ptr(), out.len()) };
+        let done = unsafe { crewelmarsh_store_fetch_abi5(0, list, LIST, tiles, TILES, bytes, 65536, tile, out.as_mut_ptr(), out.len()) };
         assert_eq!(done.answer, 0);
     }
 
     fn drop(&mut self, tile: u16) {
         let (list, tiles, bytes) = (self.list.as_mut_ptr(), self.tiles.as_mut_ptr(), self.bytes.as_mut_ptr());
-        let done = unsafe { crewelmarsh_store_drop_abi4(0, list, LIST, tiles, TILES, bytes, 65536, tile) };
+        let done = unsafe { crewelmarsh_store_drop_abi5(0, list, LIST, tiles, TILES, bytes, 65536, tile) };
         assert_eq!(done.answer, 0);
     }
 

@@ -14,7 +14,7 @@ struct answer {
     word answer, place, index, count;
 };
 
-struct answer crewelmarsh_covariance_abi4(word n, word count, const short *samples, word samples_len, double *matrix, word matrix_len);
+struct answer crewelmarsh_covariance_abi5(word n, word count, const short *samples, word samples_len, double *matrix, word matrix_len);
 
 enum { BANDS = 256, SAMPLES = 65536 };
 
@@ -103,7 +103,7 @@ static void compare(const char *what, word n, word count, word samples_len, word
     for (word k = 0; k < matrix_len; k++)
         matrix[k] = before[k] = (double)k - 7.5;
     struct answer w = wanted(n, count, samples_len, matrix_len);
-    struct answer a = crewelmarsh_covariance_abi4(n, count, planes, samples_len, matrix, matrix_len);
+    struct answer a = crewelmarsh_covariance_abi5(n, count, planes, samples_len, matrix, matrix_len);
     int good = a.answer == w.answer && a.place == w.place && a.index == 0 && a.count == 0 && left_right(w.answer, matrix_len);
     cases++;
     by_answer[w.answer]++;

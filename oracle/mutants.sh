@@ -132,7 +132,12 @@ block count before kind	s/let Some(wanted) = count_of(rows, columns, kind) else 
 block 21 before 20	s/n if n < end => Err(20)/n if n < end => Err(21)/
 block bytes over taken	s/n if n > end => Err(21),//
 block of 257	s/rows > 256 ||/rows > 257 ||/
-block main before own	s/\[own, main\]/[main, own]/
+block main before own	s/\[(1, &own), (2, &main)\]/[(2, \&main), (1, \&own)]/
+block answers exchanged	s/own_answer: answer(&own), main_answer: answer(&main)/own_answer: answer(\&main), main_answer: answer(\&own)/
+block rows of the own for a part of the main	s/rows: block.rows, columns: block.columns/rows: own.as_ref().map_or(block.rows, |b| b.rows), columns: block.columns/
+block rows where nothing is found	s/^    answers$/    Found { rows: own.map_or(0, |b| b.rows), ..answers }/
+block copy silent on the own block	s/Ok((found.own_answer,/Ok((0,/
+block copy tells of the main block	s/Ok((found.own_answer,/Ok((found.main_answer,/
 block values of a matrix's count	s/1 => Some(rows.min(columns))/1 => Some(rows * columns)/
 block written where it is short	s/if block.len() != out.len() {/if block.len() > out.len() {/
 block length where refused	s/Some(_) => 0,/Some(_) => 12,/
@@ -152,7 +157,10 @@ store tile twice let pass	/^fn read/,/^}/s/if held.iter().any(|&(other, _)| othe
 store parts leave the quota	s/let mut rest = &bytes\[start..start + own\[0\]\];/let mut rest = \&bytes[start..];/
 store another buffer taken	s/bytes.len() == list\[0\]/bytes.len() >= list[0]/
 store any room taken	s/ \&\& list\[0\] <= MOST//
-store quotas not looked at	s/ \&\& fits(list)//
+store quotas not looked at	s/ \&\& sum(list) == list\[0\] as u128//
+store any number left over taken	s/sum(list) == list\[0\] as u128/sum(list) <= list[0] as u128/
+store left over not written	/pub fn set_up/,/^}/s/list\[LEFT\] = .*//
+store sum wraps	s/\.map(|&x| x as u128).sum::<u128>()/.fold(0usize, |a, \&x| a.wrapping_add(x)) as u128/
 store list one longer taken	/^fn laid/,/^}/s/list.len() == LIST/list.len() >= LIST/
 store 39 before 34	/^fn read/,/^}/s/    if owner > 1 {/    if !laid(list, tiles, bytes) { return Err(39) }\n    if owner > 1 {/
 store owner 2 taken	/^fn read/,/^}/s/    if owner > 1 {/    if owner > 2 {/;s/tiles\[owner \* ENTRIES..\]/tiles[owner * ENTRIES % 64..]/;s/list\[1 + owner \* OWN..\]\[..OWN\];/list[1 + owner % 2 * OWN..][..OWN];/
@@ -162,7 +170,9 @@ store 35 before 37	/pub fn set_up/,/^}/s/    if bytes.len() > MOST {/    if quot
 store quotas wrap	s/quota0.checked_add(quota1).is_none_or(|both| both > bytes.len())/quota0.wrapping_add(quota1) > bytes.len()/
 store set-up keeps blocks	/pub fn set_up/,/^}/s/list\[2 + owner \* OWN\] = 0;//
 store reset empties one	/pub fn reset/,/^}/s/for owner in 0..2/for owner in 0..1/
-store reset wants sound lists	/pub fn reset/,/^}/s/if !laid(list, tiles, bytes) {/if read(0, list, tiles, bytes).is_err() || read(1, list, tiles, bytes).is_err() {/
+store reset looks at no list	/pub fn reset/,/^}/s/if (0..2).any(|owner| read(owner, list, tiles, bytes).is_err()) {/if !laid(list, tiles, bytes) {/
+store reset looks at one list	/pub fn reset/,/^}/s/(0..2).any/(0..1).any/
+store reset looks at the other list	/pub fn reset/,/^}/s/(0..2).any/(1..2).any/
 store length off by one	s/(0, block.len())/(0, block.len() + 1)/
 step runs two passes	s/^        pass(n, q.edition.*/&&/
 step forgets tst1	/left(&v, &d, &e, work, result);/{n;s/Run { answer/Run { tst1: 0.0, answer/}

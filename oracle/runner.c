@@ -12,20 +12,20 @@ struct answer {
     word answer, place, index, count;
 };
 
-struct answer crewelmarsh_symmetric_eigen_abi4(word n, word limit, word edition, const double *, word, double *, word, double *, word);
-struct answer crewelmarsh_svd_abi4(word m, word n, word want_u, word want_vt, word limit, const double *, word, double *, word,
+struct answer crewelmarsh_symmetric_eigen_abi5(word n, word limit, word edition, const double *, word, double *, word, double *, word);
+struct answer crewelmarsh_svd_abi5(word m, word n, word want_u, word want_vt, word limit, const double *, word, double *, word,
                               double *, word);
-struct answer crewelmarsh_solve_abi4(word m, word n, word has_u, word has_vt, double tolerance, const double *, word,
+struct answer crewelmarsh_solve_abi5(word m, word n, word has_u, word has_vt, double tolerance, const double *, word,
                                 const double *, word, double *, word);
-struct answer crewelmarsh_pseudo_inverse_abi4(word m, word n, word has_u, word has_vt, double tolerance, const double *, word,
+struct answer crewelmarsh_pseudo_inverse_abi5(word m, word n, word has_u, word has_vt, double tolerance, const double *, word,
                                          double *, word);
-struct answer crewelmarsh_qr_q_abi4(word m, word k, const double *, word, double *, word);
+struct answer crewelmarsh_qr_q_abi5(word m, word k, const double *, word, double *, word);
 
 struct extent {
     word start, length;
 };
 
-struct extent crewelmarsh_vt_row_extent_abi4(word m, word n, word has_u, word has_vt, word result_len, word j);
+struct extent crewelmarsh_vt_row_extent_abi5(word m, word n, word has_u, word has_vt, word result_len, word j);
 
 /* A run of symmetric_eigen in steps. */
 struct run {
@@ -35,11 +35,11 @@ struct run {
     struct answer answer;
 };
 
-struct run crewelmarsh_eigen_start_abi4(word n, word limit, word edition, const double *, word, double *, word, double *, word);
-struct run crewelmarsh_eigen_step_abi4(struct run, double *, word, double *, word);
-struct run crewelmarsh_eigen_finish_abi4(struct run, double *, word, double *, word);
+struct run crewelmarsh_eigen_start_abi5(word n, word limit, word edition, const double *, word, double *, word, double *, word);
+struct run crewelmarsh_eigen_step_abi5(struct run, double *, word, double *, word);
+struct run crewelmarsh_eigen_finish_abi5(struct run, double *, word, double *, word);
 
-struct answer crewelmarsh_lanczos_abi4(word n, word k, word limit, word edition, const double *, word, const double *, word, double *, word,
+struct answer crewelmarsh_lanczos_abi5(word n, word k, word limit, word edition, const double *, word, const double *, word, double *, word,
                                        double *, word);
 
 /* IN_STEPS is no function of the list: each case of EIGEN is run both ways. */
@@ -161,9 +161,9 @@ static void before(word old) {
 }
 
 static struct answer in_steps(const word *p, double *pa, double *pw, double *pr) {
-    struct run q = crewelmarsh_eigen_start_abi4(p[0], p[1], p[2], pa, a.len, pw, work.len, pr, result.len);
-    for (int i = 0; i < 60 * 256 && q.stop == 0 && q.l < q.n; i++) q = crewelmarsh_eigen_step_abi4(q, pw, work.len, pr, result.len);
-    return crewelmarsh_eigen_finish_abi4(q, pw, work.len, pr, result.len).answer;
+    struct run q = crewelmarsh_eigen_start_abi5(p[0], p[1], p[2], pa, a.len, pw, work.len, pr, result.len);
+    for (int i = 0; i < 60 * 256 && q.stop == 0 && q.l < q.n; i++) q = crewelmarsh_eigen_step_abi5(q, pw, work.len, pr, result.len);
+    return crewelmarsh_eigen_finish_abi5(q, pw, work.len, pr, result.len).answer;
 }
 
 int main(void) {
@@ -197,13 +197,13 @@ int main(void) {
         before(old);
         switch (f) {
         case IN_STEPS: got = in_steps(p, pa, pw, pr); break;
-        case EIGEN: got = crewelmarsh_symmetric_eigen_abi4(p[0], p[1], p[2], pa, a.len, pw, work.len, pr, result.len); break;
-        case SVD: got = crewelmarsh_svd_abi4(p[0], p[1], p[2], p[3], p[4], pa, a.len, pw, work.len, pr, result.len); break;
-        case SOLVE: got = crewelmarsh_solve_abi4(p[0], p[1], p[2], p[3], tolerance, pa, a.len, pb, b.len, pr, result.len); break;
-        case PSEUDO_INVERSE: got = crewelmarsh_pseudo_inverse_abi4(p[0], p[1], p[2], p[3], tolerance, pa, a.len, pr, result.len); break;
-        case LANCZOS: got = crewelmarsh_lanczos_abi4(p[0], p[1], p[2], p[3], pa, a.len, pb, b.len, pw, work.len, pr, result.len); break;
-        case QR_Q: got = crewelmarsh_qr_q_abi4(p[0], p[1], pa, a.len, pr, result.len); break;
-        default: got.answer = row(crewelmarsh_vt_row_extent_abi4(p[0], p[1], p[2], p[3], a.len, p[4]));
+        case EIGEN: got = crewelmarsh_symmetric_eigen_abi5(p[0], p[1], p[2], pa, a.len, pw, work.len, pr, result.len); break;
+        case SVD: got = crewelmarsh_svd_abi5(p[0], p[1], p[2], p[3], p[4], pa, a.len, pw, work.len, pr, result.len); break;
+        case SOLVE: got = crewelmarsh_solve_abi5(p[0], p[1], p[2], p[3], tolerance, pa, a.len, pb, b.len, pr, result.len); break;
+        case PSEUDO_INVERSE: got = crewelmarsh_pseudo_inverse_abi5(p[0], p[1], p[2], p[3], tolerance, pa, a.len, pr, result.len); break;
+        case LANCZOS: got = crewelmarsh_lanczos_abi5(p[0], p[1], p[2], p[3], pa, a.len, pb, b.len, pw, work.len, pr, result.len); break;
+        case QR_Q: got = crewelmarsh_qr_q_abi5(p[0], p[1], pa, a.len, pr, result.len); break;
+        default: got.answer = row(crewelmarsh_vt_row_extent_abi5(p[0], p[1], p[2], p[3], a.len, p[4]));
         }
         int good = got.answer == wanted.answer && got.place == wanted.place && got.index == wanted.index && got.count == wanted.count;
         good &= untouched(&a) & untouched(&b);

@@ -157,7 +157,7 @@ static int untouched(const double *from, size_t count)
     return 1;
 }
 
-/* Copies with this length, between guards. */
+/* Copies with this length, between guards. On 0 the place is what the reader says of the own block. */
 static struct crewelmarsh_answer copy(const unsigned char *own, size_t own_len, const unsigned char *other, size_t other_len, size_t kind,
                                       size_t length)
 {
@@ -165,7 +165,7 @@ static struct crewelmarsh_answer copy(const unsigned char *own, size_t own_len, 
     memset(copied, 0x41, (GUARD + length + GUARD) * sizeof copied[0]);
     a = crewelmarsh_block_copy(own, own_len, other, other_len, kind, length == 0 ? NULL : copied + GUARD, length);
     must(untouched(copied, GUARD) && untouched(copied + GUARD + length, GUARD), "copy: guards");
-    must(a.place == 0 && a.index == 0 && a.count == 0, "copy: place, index, count");
+    must(a.place == (a.answer == 0 ? read_block(own, own_len).answer : 0) && a.index == 0 && a.count == 0, "copy: place, index, count");
     return a;
 }
 
@@ -186,6 +186,8 @@ static void one_kind(const unsigned char *own, size_t own_len, const struct mode
     const unsigned char *base = block == 1 ? own : other;
     size_t start = block ? m->start[kind] : 0, count = block ? m->count[kind] : 0, i;
     must(at.block == block && at.start == start && at.count == count, "find");
+    must(at.rows == (block ? m->rows : 0) && at.columns == (block ? m->columns : 0), "find: rows and columns");
+    must(at.own_answer == a->answer && at.main_answer == b->answer, "find: answers");
     must(bytes.start == (block ? base + start : other) && bytes.length == 8 * count, "bytes");
     must(copy(own, own_len, other, other_len, kind, count).answer == 0, "copy");
     for (i = 0; i < count; i++) {
@@ -268,6 +270,55 @@ static void random_blocks(void)
         one_block("random", full, len);
         two_blocks("random two", full, len, second, other);
     }
+}
+
+/* A block with an inverse of four numbers that the reader answers with this. Gives its length. */
+static size_t answered(unsigned char *to, size_t rows, size_t columns, size_t answer)
+{
+    size_t len = some_block(to, rows, columns, 4);
+    to[len] = 0;
+    if (answer == 22)
+        to[2] = 1;
+    if (answer == 23)
+        to[15] = 4;
+    if (answer == 24)
+        to[19] ^= 1;
+    return answer == 20 ? len - 1 : answer == 21 ? len + 1 : len;
+}
+
+/* Each answer for a tile's own block of 1 by 4 beside each for a main one of 2 by 2: both are told, and the sizes of the one
+   that is taken. */
+static void both_told(void)
+{
+    static const size_t answers[] = {0, 20, 21, 22, 23, 24};
+    size_t i, j;
+    for (i = 0; i < 6; i++)
+        for (j = 0; j < 6; j++) {
+            size_t len = answered(full, 1, 4, answers[i]), other = answered(second, 2, 2, answers[j]);
+            struct crewelmarsh_block_part at = crewelmarsh_block_find(full, len, second, other, 3);
+            struct crewelmarsh_answer a = copy(full, len, second, other, 3, i > 0 && j > 0 ? 0 : 4);
+            must(at.own_answer == answers[i] && at.main_answer == answers[j], "both answers");
+            must(at.block == (i == 0 ? 1u : j == 0 ? 2u : 0u), "the block that is taken");
+            must(at.rows == (i == 0 ? 1u : j == 0 ? 2u : 0u) && at.columns == (i == 0 ? 4u : j == 0 ? 2u : 0u), "1 by 4 or 2 by 2");
+            must(a.answer == 0 && a.place == answers[i], "copy: the own block's answer");
+            two_blocks("both told", full, len, second, other);
+        }
+}
+
+/* A tile's own block with one bit of its header wrong, beside a good main one. */
+static void own_damaged(void)
+{
+    size_t len = some_block(full, 2, 2, 7), other = some_block(second, 2, 2, 7), i, v;
+    for (i = 0; i < 48; i++)
+        for (v = 0; v < 8; v++) {
+            struct crewelmarsh_block_part at;
+            full[i] ^= (unsigned char)(1 << v);
+            at = crewelmarsh_block_find(full, len, second, other, 3);
+            must(at.block == 2 && at.own_answer >= 20 && at.own_answer <= 24 && at.main_answer == 0, "damage is told");
+            must(copy(full, len, second, other, 3, 4).place == at.own_answer, "copy: damage is told");
+            two_blocks("own damaged", full, len, second, other);
+            full[i] ^= (unsigned char)(1 << v);
+        }
 }
 
 static void largest(void)
@@ -436,6 +487,42 @@ static void all_refused(void)
     }
 }
 
+/* What fits into a store (THE STORE in the header): the most bands of an n by n block in a whole buffer, half and a quarter of one, and the most of 256 components. */
+static size_t most_bands(size_t room, size_t parts, size_t kind1, size_t kind2, size_t kind3)
+{
+    size_t n = 0;
+    while (n < 256 && crewelmarsh_block_length(n + 1, n + 1, parts, kind1, kind2, kind3) <= room)
+        n++;
+    return n;
+}
+
+static size_t most_components(size_t room)
+{
+    size_t k = 0;
+    while (k < 256 && crewelmarsh_block_length(k + 1, 256, 1, 3, 0, 0) <= room)
+        k++;
+    return k;
+}
+
+static void what_fits(void)
+{
+    static const size_t table[3][4] = {{90, 89, 63, 63}, {63, 63, 45, 44}, {45, 44, 31, 31}};
+    size_t r;
+    for (r = 0; r < 3; r++) {
+        size_t room = CREWELMARSH_STORE_BYTES_MOST >> r;
+        check(most_bands(room, 1, 3, 0, 0) == table[r][0], "the inverse alone");
+        check(most_bands(room, 2, 1, 3, 0) == table[r][1], "values and inverse");
+        check(most_bands(room, 2, 2, 3, 0) == table[r][2], "matrix and inverse");
+        check(most_bands(room, 3, 1, 2, 3) == table[r][3], "all three");
+    }
+    check(most_bands(CREWELMARSH_STORE_BYTES_MOST / CREWELMARSH_STORE_ENTRIES_MOST, 1, 3, 0, 0) == 15, "32 at a time");
+    check(most_components(65536) == 31 && most_components(32768) == 15, "components of 256 bands");
+    check(crewelmarsh_block_length(16, 16, 1, 3, 0, 0) == 2072 && crewelmarsh_block_length(64, 64, 1, 3, 0, 0) == 32792 &&
+              crewelmarsh_block_length(256, 256, 1, 3, 0, 0) == 524312 && crewelmarsh_block_length(8, 256, 1, 3, 0, 0) == 16408,
+          "what the inverse alone costs");
+    check(crewelmarsh_block_length(16, 16, 3, 1, 2, 3) == 4272 && crewelmarsh_block_length(64, 64, 3, 1, 2, 3) == 66096, "what all three cost");
+}
+
 void test_blocks(void)
 {
     static const size_t sizes[] = {0, 1, 2, 5};
@@ -445,6 +532,8 @@ void test_blocks(void)
     cuts_and_changes(2, 2, 5);
     cuts_and_changes(0, 3, 7);
     random_blocks();
+    both_told();
+    own_damaged();
     largest();
     for (i = 0; i < 4; i++)
         for (j = 0; j < 4; j++)
@@ -454,4 +543,5 @@ void test_blocks(void)
     written(256, 3, 6);
     written(0, 256, 7);
     all_refused();
+    what_fits();
 }

@@ -37,5 +37,7 @@ int main(void)
     test_tally();
     group("lanczos");
     test_lanczos();
+    group("leading");
+    test_leading();
     return report();
 }

@@ -29,12 +29,12 @@ extern const uint64_t bad_numbers[BAD_NUMBERS];
 enum { LARGE_NUMBERS = 9 };
 extern const size_t large_numbers[LARGE_NUMBERS];
 
-enum entry { EIGEN, SVD, SOLVE, PSEUDO_INVERSE, QR_Q, LANCZOS };
+enum entry { EIGEN, SVD, SOLVE, PSEUDO_INVERSE, QR_Q, LANCZOS, LEADING };
 
-/* One call. `in` is the matrix or the decomposition, `out` the result or the answer. */
+/* One call. `in` is the matrix, the decomposition or the eigen result, `out` the result or the answer. */
 struct call {
     enum entry entry;
-    size_t m, n;   /* eigen has n alone; n is the k of qr_q, m that of lanczos */
+    size_t m, n;   /* eigen has n alone; n is the k of qr_q, m that of lanczos and leading */
     size_t u, vt;  /* the flags */
     size_t limit;
     size_t edition; /* of eigen and lanczos */
@@ -51,6 +51,7 @@ struct call solve_call(size_t m, size_t n, const double *decomposition, const do
 struct call pseudo_inverse_call(size_t m, size_t n, const double *decomposition);
 struct call qr_q_call(size_t m, size_t k, const double *matrix);
 struct call lanczos_call(size_t n, size_t k, const double *matrix, const double *start);
+struct call leading_call(size_t n, size_t k, const double *result);
 
 /*
  * Runs a call on arrays between guard words, twice, with other old contents the second time; an array
@@ -100,5 +101,6 @@ void test_store(void);
 void test_steps(void);
 void test_tally(void);
 void test_lanczos(void);
+void test_leading(void);
 
 #endif

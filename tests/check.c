@@ -150,6 +150,8 @@ static struct crewelmarsh_answer run(const struct call *c, const double *in, con
     case LANCZOS:
         return crewelmarsh_lanczos(c->n, c->m, c->limit, c->edition, in, c->in_len, right, c->right_len,
                                    work, c->work_len, out, c->out_len);
+    case LEADING:
+        return crewelmarsh_leading(c->n, c->m, in, c->in_len, out, c->out_len);
     }
     return none;
 }
@@ -349,5 +351,14 @@ struct call lanczos_call(size_t n, size_t k, const double *matrix, const double 
     c.right_full = c.right_len = n;
     c.work_len = crewelmarsh_lanczos_work_len(n, k);
     c.out_len = crewelmarsh_lanczos_answer_len(n, k);
+    return c;
+}
+
+struct call leading_call(size_t n, size_t k, const double *result)
+{
+    struct call c = blank(LEADING, k, n);
+    c.in = result;
+    c.in_full = c.in_len = crewelmarsh_symmetric_eigen_result_len(n);
+    c.out_len = crewelmarsh_leading_out_len(n, k);
     return c;
 }

@@ -33,6 +33,8 @@ SAME(lanczos_work_less, CREWELMARSH_LANCZOS_WORK_LEN(256, 117), 195584);
 SAME(lanczos_work_over, CREWELMARSH_LANCZOS_WORK_LEN(3, 257), 0);
 SAME(lanczos_answer, CREWELMARSH_LANCZOS_ANSWER_LEN(1 + 2, 2), 8);
 SAME(lanczos_answer_over, CREWELMARSH_LANCZOS_ANSWER_LEN(257, 2), 0);
+SAME(leading_out, CREWELMARSH_LEADING_OUT_LEN(1 + 2, 2), 8);
+SAME(leading_out_over, CREWELMARSH_LEADING_OUT_LEN(2, 257), 0);
 SAME(svd_work, CREWELMARSH_SVD_WORK_LEN(3, 2), 12);
 SAME(svd_work_most, CREWELMARSH_SVD_WORK_LEN(256, 256), 131328);
 SAME(svd_result, CREWELMARSH_SVD_RESULT_LEN(1 + 2, 2, 1, 1), 12);
@@ -47,12 +49,14 @@ SAME(covariance_samples, CREWELMARSH_COVARIANCE_SAMPLES_LEN(1 + 2, 65536), 19660
 SAME(covariance_over, CREWELMARSH_COVARIANCE_SAMPLES_LEN(3, 65537), 0);
 SAME(covariance_bands, CREWELMARSH_COVARIANCE_SAMPLES_LEN(257, 1), 0);
 SAME(covariance_matrix, CREWELMARSH_COVARIANCE_MATRIX_LEN(3), 9);
+SAME(sums_out, CREWELMARSH_SUMS_OUT_LEN(1 + 2), 3);
+SAME(sums_over, CREWELMARSH_SUMS_OUT_LEN(257), 0);
 
 #if CREWELMARSH_VERSION_MAJOR < 4
 #error "the version is no number"
 #endif
 
-/* "4.3.0", of one digit each until one has more. */
+/* "5.0.0", of one digit each until one has more. */
 static int version_right(void)
 {
     const char *v = CREWELMARSH_VERSION;
@@ -88,8 +92,53 @@ static int store_constants_right(void)
     return CREWELMARSH_STORE_FULL == 30 && CREWELMARSH_STORE_HELD == 31 && CREWELMARSH_STORE_MISSING == 32 &&
            CREWELMARSH_STORE_ENTRIES == 33 && CREWELMARSH_STORE_OWNER == 34 && CREWELMARSH_STORE_QUOTAS == 35 &&
            CREWELMARSH_STORE_BUFFER == 37 && CREWELMARSH_STORE_DAMAGED == 39 && CREWELMARSH_STORE_OWNERS == 2 &&
-           CREWELMARSH_STORE_ENTRIES_MOST == 32 && CREWELMARSH_STORE_LIST_LEN == 69 && CREWELMARSH_STORE_TILES_LEN == 64 &&
-           CREWELMARSH_STORE_BYTES_MOST == 65536;
+           CREWELMARSH_STORE_ENTRIES_MOST == 32 && CREWELMARSH_STORE_LIST_LEN == 70 && CREWELMARSH_STORE_TILES_LEN == 64 &&
+           CREWELMARSH_STORE_BYTES_MOST == 65536 && CREWELMARSH_TILE_MOST == 65535 && CREWELMARSH_STACK_MOST == 24576;
+}
+
+/* A number is a tile's or it isn't: the last that is one, the first that isn't, those whose low 16 bits would do, and a negative int. */
+static int tiles_right(void)
+{
+    static const size_t none[] = {65536, 65536 + 7, 4294967296u, (size_t)-1};
+    uint16_t tile = 99;
+    size_t i;
+    for (i = 0; i < sizeof none / sizeof none[0]; i++)
+        if (crewelmarsh_tile(none[i], &tile) || tile != 99)
+            return 0;
+    for (i = 0; i < 65536; i++)
+        if (!crewelmarsh_tile(i, &tile) || tile != i)
+            return 0;
+    return 1;
+}
+
+/* The word of a place: each place that the header gives of a 6 has one, as the parameter is named, and no other has. */
+static int names_right(void)
+{
+    static const char *const arrays[CREWELMARSH_CALLS] = {
+        "matrix work result", "matrix work result", "work result", "work result", "matrix start work answer", "matrix work result",
+        "decomposition answer", "decomposition answer", "matrix answer", "result out", "samples matrix", "samples out", "out", "out", "out"};
+    static const char none[] = "no array of that call";
+    size_t call, place;
+    for (call = 0; call < CREWELMARSH_CALLS; call++) {
+        char said[64];
+        size_t end = 0;
+        for (place = 0; strcmp(crewelmarsh_array_name(call, place), none) != 0; place++) {
+            const char *name = crewelmarsh_array_name(call, place);
+            if (place > 0)
+                said[end++] = ' ';
+            while (*name != 0 && end < sizeof said - 2)
+                said[end++] = *name++;
+        }
+        said[end] = 0;
+        if (strcmp(said, arrays[call]) != 0 || strcmp(crewelmarsh_array_name(call, (size_t)-1), none) != 0)
+            return 0;
+    }
+    return CREWELMARSH_CALL_SYMMETRIC_EIGEN == 0 && CREWELMARSH_CALL_STORE_FETCH + 1 == CREWELMARSH_CALLS &&
+           strcmp(crewelmarsh_array_name(CREWELMARSH_CALL_LANCZOS, 1), "start") == 0 &&
+           strcmp(crewelmarsh_array_name(CREWELMARSH_CALL_SVD, 2), "result") == 0 &&
+           strcmp(crewelmarsh_array_name(CREWELMARSH_CALL_COVARIANCE, 0), "samples") == 0 &&
+           strcmp(crewelmarsh_array_name(CREWELMARSH_CALL_EIGEN_STEP, 0), "work") == 0 &&
+           strcmp(crewelmarsh_array_name(CREWELMARSH_CALLS, 0), none) == 0 && strcmp(crewelmarsh_array_name((size_t)-1, 0), none) == 0;
 }
 
 /* Those of the tally, whose struct is 20 numbers in the order of the report. */
@@ -142,6 +191,7 @@ static int lengths_right(size_t m, size_t n)
            crewelmarsh_svd_result_len(m, n, 1, 1) == (taken ? r + m * r + r * n : 0) &&
            crewelmarsh_lanczos_work_len(m, n) == (taken ? steps(m, n) * (m + 2 * steps(m, n) + 4) + 2 * m : 0) &&
            crewelmarsh_lanczos_answer_len(m, n) == (taken ? n + n * m : 0) &&
+           crewelmarsh_leading_out_len(m, n) == (taken ? n + n * m : 0) &&
            crewelmarsh_pseudo_inverse_answer_len(m, n) == (taken ? n * m : 0) &&
            crewelmarsh_qr_q_answer_len(m, n) == (taken ? m * n : 0);
 }
@@ -149,7 +199,8 @@ static int lengths_right(size_t m, size_t n)
 static int covariance_lengths_right(size_t n, size_t count)
 {
     return crewelmarsh_covariance_samples_len(n, count) == (n <= 256 && count <= 65536 ? n * count : 0) &&
-           crewelmarsh_covariance_matrix_len(n) == (n <= 256 ? n * n : 0);
+           crewelmarsh_covariance_matrix_len(n) == (n <= 256 ? n * n : 0) &&
+           crewelmarsh_sums_out_len(n) == (n <= 256 ? n : 0);
 }
 
 static int is_part(struct crewelmarsh_part part, const double *start, size_t length)
@@ -198,19 +249,30 @@ static int in_order(void)
     return a.answer == 1 && a.place == 2 && a.index == 3 && a.count == 4;
 }
 
+static int part_in_order(void)
+{
+    struct crewelmarsh_block_part p;
+    size_t numbers[sizeof p / sizeof(size_t)], i;
+    for (i = 0; i < sizeof p / sizeof(size_t); i++)
+        numbers[i] = i + 1;
+    memcpy(&p, numbers, sizeof p);
+    return sizeof p == 7 * sizeof(size_t) && p.block == 1 && p.start == 2 && p.count == 3 && p.rows == 4 && p.columns == 5 && p.own_answer == 6 &&
+           p.main_answer == 7;
+}
+
 /* An empty block in a store of no byte. */
 static int store_links(void)
 {
     size_t list[CREWELMARSH_STORE_LIST_LEN];
     uint16_t tiles[CREWELMARSH_STORE_TILES_LEN];
     return is_answer(crewelmarsh_store_setup(0, 0, list, CREWELMARSH_STORE_LIST_LEN, tiles, CREWELMARSH_STORE_TILES_LEN, NULL, 0), 0, 0, 0) &&
-           is_answer(crewelmarsh_store_put(1, list, 69, tiles, 64, NULL, 0, 7, NULL, 0), 0, 0, 0) &&
-           is_answer(crewelmarsh_store_length(1, list, 69, tiles, 64, NULL, 0, 7), 0, 0, 0) &&
-           is_answer(crewelmarsh_store_fetch(1, list, 69, tiles, 64, NULL, 0, 7, NULL, 0), 0, 0, 0) &&
-           is_answer(crewelmarsh_store_drop(0, list, 69, tiles, 64, NULL, 0, 7), 32, 0, 0) &&
-           is_answer(crewelmarsh_store_drop(1, list, 69, tiles, 64, NULL, 0, 7), 0, 0, 0) &&
-           is_answer(crewelmarsh_store_reset(list, 69, tiles, 64, NULL, 0), 0, 0, 0) &&
-           is_answer(crewelmarsh_store_drop(2, list, 69, tiles, 64, NULL, 0, 7), 34, 0, 0);
+           is_answer(crewelmarsh_store_put(1, list, 70, tiles, 64, NULL, 0, 7, NULL, 0), 0, 0, 0) &&
+           is_answer(crewelmarsh_store_length(1, list, 70, tiles, 64, NULL, 0, 7), 0, 0, 0) &&
+           is_answer(crewelmarsh_store_fetch(1, list, 70, tiles, 64, NULL, 0, 7, NULL, 0), 0, 0, 0) &&
+           is_answer(crewelmarsh_store_drop(0, list, 70, tiles, 64, NULL, 0, 7), 32, 0, 0) &&
+           is_answer(crewelmarsh_store_drop(1, list, 70, tiles, 64, NULL, 0, 7), 0, 0, 0) &&
+           is_answer(crewelmarsh_store_reset(list, 70, tiles, 64, NULL, 0), 0, 0, 0) &&
+           is_answer(crewelmarsh_store_drop(2, list, 70, tiles, 64, NULL, 0, 7), 34, 0, 0);
 }
 
 /* A run's record likewise: eleven numbers and the answer, two of them doubles. */
@@ -244,13 +306,15 @@ static int entries_link(void)
     struct crewelmarsh_block_part part = crewelmarsh_block_find(NULL, 0, NULL, 0, 1);
     unsigned char least[12];
     return block.answer == 20 && block.rows == 0 && block.columns == 0 && block.parts == 0 && part.block == 0 && part.start == 0 &&
-           part.count == 0 && crewelmarsh_block_bytes(NULL, 0, NULL, 0, 1).start == NULL &&
-           is_answer(crewelmarsh_block_copy(NULL, 0, NULL, 0, 1, NULL, 0), 0, 0, 0) &&
+           part.count == 0 && part.rows == 0 && part.columns == 0 && part.own_answer == 20 && part.main_answer == 20 &&
+           crewelmarsh_block_bytes(NULL, 0, NULL, 0, 1).start == NULL &&
+           is_answer(crewelmarsh_block_copy(NULL, 0, NULL, 0, 1, NULL, 0), 0, 20, 0) &&
            crewelmarsh_block_length(0, 0, 0, 0, 0, 0) == 12 &&
            is_answer(crewelmarsh_block_write(0, 0, 0, 0, NULL, 0, 0, NULL, 0, 0, NULL, 0, least, 12), 0, 0, 0) &&
            crewelmarsh_block_check(least, 12).answer == 0 && none.start == 0 && none.length == 0 &&
            is_answer(crewelmarsh_symmetric_eigen(0, 60, 1, NULL, 0, NULL, 0, NULL, 0), 0, 0, 0) &&
            is_answer(crewelmarsh_lanczos(0, 0, 60, 1, NULL, 0, NULL, 0, NULL, 0, NULL, 0), 14, 0, 0) &&
+           is_answer(crewelmarsh_leading(0, 0, NULL, 0, NULL, 0), 0, 0, 0) &&
            is_answer(crewelmarsh_svd(0, 0, 1, 1, 60, NULL, 0, NULL, 0, NULL, 0), 0, 0, 1) &&
            is_answer(crewelmarsh_solve(0, 0, 1, 1, 0.0, NULL, 0, NULL, 0, NULL, 0), 0, 0, 0) &&
            is_answer(crewelmarsh_pseudo_inverse(0, 0, 1, 1, 0.0, NULL, 0, NULL, 0), 0, 0, 0) &&
@@ -267,6 +331,7 @@ void TEST_HEADER(void (*check)(int good, const char *what))
     check(texts_differ(), "texts");
     check(sizeof(struct crewelmarsh_answer) == 4 * sizeof(size_t), "four numbers");
     check(in_order(), "answer, place, index, count");
+    check(part_in_order(), "the fields of a part");
     check(sizeof(struct crewelmarsh_eigen_run) == 15 * 8, "fifteen numbers");
     check(run_in_order(), "the fields of a run");
     check(steps_link(), "a run in steps");
@@ -280,7 +345,10 @@ void TEST_HEADER(void (*check)(int good, const char *what))
         for (j = 0; j < DIMENSIONS; j++)
             check(covariance_lengths_right(dimensions[i], dimensions[j]), "lengths of covariance");
     check(is_answer(crewelmarsh_covariance(0, 1, NULL, 0, NULL, 0), 0, 0, 0), "covariance of no band");
+    check(is_answer(crewelmarsh_sums(0, 1, NULL, 0, NULL, 0), 0, 0, 0), "sums of no band");
     check(store_constants_right(), "constants of the store");
+    check(tiles_right(), "tile numbers");
+    check(names_right(), "names of arrays");
     check(store_links(), "the store");
     check(tally_right(), "the tally");
     check(rows_right(), "rows of V^T");

@@ -2,7 +2,7 @@
 # install.sh VERSION NAME..: 'make install' and 'make release' in a scratch folder, then what a C codec would do with them: gcc and g++ by
 # pkg-config, cmake, the archive and the shared library, and headers that don't fit. NAME.. are the entries' names in the libraries.
 # Run by 'make install-test'. Needs gcc for x86-64 (GCC, GXX are other names of it and of g++, RUNNER what its programs run under elsewhere); says what it
-# didn't try where g++, pkg-config, cmake or nm is missing. Status 1 on a failure.
+# didn't try where g++, pkg-config, cmake or nm is missing. AGAIN=1 also builds the archive anew in another folder. Status 1 on a failure.
 set -u
 
 version=$1
@@ -68,16 +68,68 @@ if have python3 'the book'; then
 fi
 check 'make install' "$make" -s install PREFIX="$scratch/prefix" ARCHIVE="$archive"
 check 'make install DESTDIR LIB' "$make" -s install DESTDIR="$scratch/stage" PREFIX=/usr LIB=$lib ARCHIVE="$archive"
+docs=share/doc/crewelmarsh
+papers=$(for file in LICENSE NOTICE docs/* examples/*.c; do [ ! -f "$file" ] || echo "$docs/${file#docs/}"; done | LC_ALL=C sort | tr '\n' ' ')
 check 'files' same "$(files "$scratch/prefix")" "include/crewelmarsh.h lib/cmake/crewelmarsh/crewelmarshConfig.cmake \
 lib/cmake/crewelmarsh/crewelmarshConfigVersion.cmake lib/libcrewelmarsh.a lib/libcrewelmarsh.so lib/libcrewelmarsh.so.$major \
-lib/libcrewelmarsh.so.$version lib/pkgconfig/crewelmarsh.pc share/doc/crewelmarsh/LICENSE share/doc/crewelmarsh/NOTICE $book"
+lib/libcrewelmarsh.so.$version lib/pkgconfig/crewelmarsh.pc $(echo "$papers $book" | tr ' ' '\n' | sed '/^$/d' | LC_ALL=C sort | tr '\n' ' ')"
 check 'files of DESTDIR' same "$(files "$scratch/stage/usr")" \
     "$(files "$scratch/prefix" | sed "s|\([ ^]\)lib/|\1$lib/|g")"
 [ -z "$book" ] || check 'the book that make book writes' diff -r build/book "$scratch/prefix/share/doc/crewelmarsh/book"
 check 'DESTDIR stands in no file' same "$(grep -rl "$scratch" "$scratch/stage")" ''
-for file in include/crewelmarsh.h LICENSE NOTICE; do
+for file in include/crewelmarsh.h LICENSE NOTICE docs/C.md; do
     check "$file" cmp "$file" "$(find "$scratch/prefix" -name "$(basename "$file")")"
 done
+
+# ---- what the installed files point to
+
+# cited FILE: the documents and files that it names, and the targets of its links.
+cited() {
+    awk '{
+        line = $0
+        while (match(line, /\]\([A-Za-z0-9_.\/-]+\)/)) { print "beside " substr(line, RSTART + 2, RLENGTH - 3); line = substr(line, RSTART + RLENGTH) }
+        line = $0
+        while (match(line, /[A-Za-z0-9_.\/-]+/)) {
+            word = substr(line, RSTART, RLENGTH); line = substr(line, RSTART + RLENGTH)
+            sub(/[.\/-]+$/, "", word)
+            if (word ~ /^docs\/landings/) print "repository docs/landings"
+            else if (word ~ /^docs\/./) print "beside " substr(word, 6)
+            else if (word ~ /^examples\/./) print "beside " word
+            else if (word ~ /^share\/doc\/crewelmarsh\/./) print "beside " substr(word, 23)
+            else if (word ~ /^(README|CONTRIBUTING)\.md$/) print "repository " word
+            else if (word ~ /^[A-Z]+\.md$/) print "beside " word
+            else if (word ~ /^(crates|tests|tools|oracle|include)\/./) print "repository " word
+        }
+    }' "$1" | LC_ALL=C sort -u
+}
+# points FILE: each of them is installed with it, or stands in the repository, of which docs/C.md says what it is.
+points() {
+    cited "$1" | {
+        lost=0
+        while read -r where what; do
+            case $where in
+                beside) [ -e "$scratch/prefix/$docs/$what" ] || [ "$what" = BUILT-FROM ] || { echo "$what is not installed"; lost=1; } ;;
+                *) [ -e "$what" ] || { echo "$what is not in the repository"; lost=1; } ;;
+            esac
+        done
+        [ $lost = 0 ]
+    }
+}
+for file in include/crewelmarsh.h $papers; do
+    check "$file points to what is there" points "$scratch/prefix/$file"
+done
+printf 'See docs/NOWHERE.md, and tests/nowhere.c.\n' >"$scratch/nowhere"
+refused 'a document that is not there' 'NOWHERE.md is not installed' points "$scratch/nowhere"
+
+# ---- a PREFIX that no makefile can say: refused, and nothing written
+
+mkdir "$scratch/odd"
+for odd in 'a b' "a'b" 'a"b' 'a|b' 'a&b' 'a#b'; do
+    refused "PREFIX with $odd" 'Nothing was written' "$make" -s install PREFIX="$scratch/odd/$odd" ARCHIVE="$archive"
+    refused "DESTDIR with $odd" 'Nothing was written' "$make" -s install DESTDIR="$scratch/odd/$odd" PREFIX=/usr ARCHIVE="$archive"
+    refused "LIB with $odd" 'Nothing was written' "$make" -s install PREFIX="$scratch/odd/p" LIB="$odd" ARCHIVE="$archive"
+done
+check 'nothing was written' same "$(files "$scratch/odd")" ''
 
 # ---- programs: one that uses everything, one that uses nothing, and one for each entry
 
@@ -115,6 +167,7 @@ call eigen_start '(0, 60, 1, NULL, 0, NULL, 0, NULL, 0)' answer.answer
 call eigen_step '(crewelmarsh_eigen_start(0, 60, 1, NULL, 0, NULL, 0, NULL, 0), NULL, 0, NULL, 0)' answer.answer
 call eigen_finish '(crewelmarsh_eigen_start(0, 60, 1, NULL, 0, NULL, 0, NULL, 0), NULL, 0, NULL, 0)' answer.answer
 call lanczos '(0, 0, 60, 1, NULL, 0, NULL, 0, NULL, 0, NULL, 0)' place
+call leading '(0, 0, NULL, 0, NULL, 0)' answer
 call svd '(0, 0, 1, 1, 60, NULL, 0, NULL, 0, NULL, 0)' answer
 call vt_row_extent '(0, 0, 1, 1, 0, 0)' length
 call solve '(0, 0, 1, 1, 0, NULL, 0, NULL, 0, NULL, 0)' answer
@@ -126,6 +179,7 @@ call block_copy '(NULL, 0, NULL, 0, 1, NULL, 0)' answer
 call block_length '(257, 0, 0, 0, 0, 0)'
 call block_write '(0, 0, 0, 0, NULL, 0, 0, NULL, 0, 0, NULL, 0, NULL, 0)' place
 call covariance '(0, 1, NULL, 0, NULL, 0)' answer
+call sums '(0, 1, NULL, 0, NULL, 0)' answer
 call store_setup '(0, 0, NULL, 0, NULL, 0, NULL, 0)' answer
 call store_put '(0, NULL, 0, NULL, 0, NULL, 0, 1, NULL, 0)' answer
 call store_length '(0, NULL, 0, NULL, 0, NULL, 0, 1)' count
@@ -168,6 +222,20 @@ try() { # try COMPILER STANDARD..
 names=$*
 try "$gcc" c99 c11
 have "$gxx" 'C++' && try "$gxx" c++98 c++17
+
+# ---- the example over OpenJPEG (examples/spectral)
+
+if flags=$(sh examples/spectral/openjpeg.sh "$gcc"); then
+    for library in "$a" "$so"; do
+        # shellcheck disable=SC2086 # flags are words
+        check "examples/spectral: $(basename "$library")" quietly "$gcc" -std=c99 -O2 -ffp-contract=off $warn -I"$scratch/prefix/include" \
+            examples/spectral/*.c "$library" $flags -lm -o "$scratch/spectral"
+        check "examples/spectral: run with $(basename "$library")" \
+            same "$(LD_LIBRARY_PATH=$scratch/prefix/lib $run "$scratch/spectral" -b 8 -s 64 -d "$scratch" | grep -cx '  good')" 3
+    done
+else
+    untried="$untried libopenjp2-7-dev"
+fi
 
 # ---- the shared library
 
@@ -216,6 +284,7 @@ if have cmake 'the CMake package'; then
     check 'cmake, the shared library' same "$($run "$scratch/fits/build/two_shared")" "$said"
     check 'cmake, exact version' project exact "$version EXACT" "$scratch/prefix"
     check 'cmake, libraries further down' project down "$major.0" "$scratch/stage/usr"
+    refused 'cmake, another machine' 'are for x86-64 Linux' env CFLAGS=-U__x86_64__ sh -c "$(command -v cmake) -S '$scratch/fits' -B '$scratch/elsewhere' -DCMAKE_PREFIX_PATH='$scratch/prefix'"
     refused 'cmake, another major' 'compatible with requested version' project another "$other" "$scratch/prefix"
     refused 'cmake, a later minor' 'compatible with requested version' project later "$major.99" "$scratch/prefix"
 fi
@@ -239,6 +308,14 @@ if command -v pkg-config >/dev/null; then
     # shellcheck disable=SC2046
     check 'gcc by the release' quietly "$gcc" "$scratch/two.c" $(pkg-config --cflags --libs crewelmarsh) -o "$scratch/two"
     check 'run by the release' same "$(LD_LIBRARY_PATH=$release/lib $run "$scratch/two")" "$said"
+fi
+
+# ---- the archive from another folder
+
+if [ -n "${AGAIN:-}" ]; then
+    check 'the archive from another folder' "$make" -s archive-again ARCHIVE="$archive"
+else
+    echo "AGAIN=1 would build the archive anew in another folder: not tried"
 fi
 
 echo "install: $checks checks, $failed failed${untried:+; not tried:$untried}"

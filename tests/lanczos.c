@@ -23,6 +23,30 @@ static void worked(void)
     expect("a start of zeros", lanczos_call(2, 1, halves, none), 0, 1, 0, level);
 }
 
+/* Values that stand more than once: 2 times the identity has one pair. With numbers of a covariance's size rounding passes the test of beta, so that
+   diag(5e6, 5e6, 1, 2) has two, and from where the run starts it depends whether the second is of the same value. */
+static void equal_values(void)
+{
+    double twice[16] = {2, 0, 0, 0, 0, 2, 0, 0, 0, 0, 2, 0, 0, 0, 0, 2};
+    double large[16] = {5e6, 0, 0, 0, 0, 5e6, 0, 0, 0, 0, 1, 0, 0, 0, 0, 2};
+    double other[4] = {1, 2, 3, 4}, same[4] = {3, 1, 4, 1}, out[10];
+    size_t edition;
+    for (edition = 1; edition <= 2; edition++) {
+        struct call c = lanczos_call(4, 2, twice, other);
+        c.edition = edition;
+        expect_pairs("2 times the identity, two asked for", c, 1, out);
+        check(out[1] == 0, "no second value");
+        c = lanczos_call(4, 2, large, other);
+        c.edition = edition;
+        expect_pairs("a large value twice", c, 2, out);
+        check(out[0] > 4999999 && out[0] < 5000001 && out[1] > 1.999 && out[1] < 2.001, "found once");
+        c = lanczos_call(4, 2, large, same);
+        c.edition = edition;
+        expect_pairs("a large value twice, from elsewhere", c, 2, out);
+        check(out[0] > 4999999 && out[0] < 5000001 && out[1] > 4999999 && out[1] <= out[0], "found twice");
+    }
+}
+
 /* A start vector whose norm is EPSILON is not divided by it, and one above it is. */
 static void start_norm(void)
 {
@@ -290,6 +314,7 @@ static void beside(void)
 void test_lanczos(void)
 {
     worked();
+    equal_values();
     start_norm();
     tiny();
     by_bits();

@@ -476,6 +476,48 @@ static void spoiled_vector(void)
     repeats(q, &first);
 }
 
+/* Before the finish v stands column by column, and after it row by row: each column is there with its value, which the finish moves. */
+static void columns_then_rows(void)
+{
+    struct crewelmarsh_eigen_run q = half_way(4);
+    const double *before = result_of(&second), *after = result_of(&first);
+    size_t i, j, k;
+    while (crewelmarsh_eigen_goes_on(q))
+        q = step(q, &first);
+    second = first;
+    q = finish(q, &first);
+    check(q.answer.answer == 0, "the finish");
+    for (j = 0; j < 4; j++) {
+        for (k = 0; to_bits(before[k]) != to_bits(after[j]) && k < 4; k++)
+            ;
+        for (i = 0; i < 4; i++)
+            check(k < 4 && to_bits(before[4 + k * 4 + i]) == to_bits(after[4 + i * 4 + j]), "v column by column");
+    }
+}
+
+/* What 13 does not see comes through the steps, and a mark sees it: a NaN in v in the result, one in f in the record. */
+static void unseen(void)
+{
+    struct crewelmarsh_eigen_run q = half_way(1);
+    size_t k, bad = 0;
+    result_of(&first)[4 + 2 * 4 + 1] = not_a_number();
+    q = step(q, &first);
+    for (k = 4; k < 20; k++)
+        bad += result_of(&first)[k] != result_of(&first)[k];
+    check(is_answer(q.answer, 0, 0, 0, q.count) && bad > 0, "a NaN in v comes through a step");
+    while (crewelmarsh_eigen_goes_on(q))
+        q = step(q, &first);
+    q = finish(q, &first);
+    check(q.answer.answer == 10 && q.answer.place == 2, "mark 2 sees it");
+    q = half_way(1);
+    q.f = not_a_number();
+    q = step(q, &first);
+    check(is_answer(q.answer, 0, 0, 0, q.count) && q.f != q.f, "a NaN in f comes through a step");
+    while (crewelmarsh_eigen_goes_on(q))
+        q = step(q, &first);
+    check(finish(q, &first).answer.answer == 10, "a mark sees it");
+}
+
 /* Two runs, a step of each in turn. */
 static void side_by_side(void)
 {
@@ -502,5 +544,7 @@ void test_steps(void)
     too_wide();
     damaged_arrays();
     spoiled_vector();
+    columns_then_rows();
+    unseen();
     side_by_side();
 }

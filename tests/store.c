@@ -2,7 +2,7 @@
 #include <string.h>
 #include "boundary.h"
 
-enum { EDGE = 16, ENTRIES = 32, OWN = 34, LIST = 69, TILES = 64, ROOM = 65536, CALLS = 100000 };
+enum { EDGE = 16, ENTRIES = 32, OWN = 34, LEFT = 69, LIST = 70, TILES = 64, ROOM = 65536, CALLS = 100000 };
 
 /* The arrays between guards, and as they were before a call. */
 struct arrays {
@@ -238,6 +238,7 @@ static int set_up_right(size_t length, size_t quota0, size_t quota1)
     before.list[EDGE + 1] = quota0;
     before.list[EDGE + 35] = quota1;
     before.list[EDGE + 2] = before.list[EDGE + 36] = 0;
+    before.list[EDGE + LEFT] = length - quota0 - quota1;
     return is(setup(quota0, quota1), 0, 0) && untouched();
 }
 
@@ -265,10 +266,11 @@ static void given_lists(void)
 {
     unsigned round, k;
     for (round = 0; round < 60; round++) {
-        size_t length = draw(3000), quota0 = draw((unsigned)length + 1), owner;
+        size_t length = draw(3000), quota0 = draw((unsigned)length + 1), left = round % 2 ? draw((unsigned)(length - quota0) + 1) : 0, owner;
         scramble(now.bytes, EDGE + length + EDGE);
-        begin(length, quota0, length - quota0);
+        begin(length, quota0, length - quota0 - left);
         list[0] = length;
+        list[LEFT] = left;
         for (owner = 0; owner < 2; owner++) {
             struct map *m = &maps[owner];
             size_t *own = list + 1 + owner * OWN, at = 0;
@@ -315,12 +317,13 @@ static void both_refused(const char *what)
     refused(what, 2, 34);
 }
 
-/* A damaged list of one owner doesn't stop the other, who finds its own blocks. */
+/* A damaged list of one owner stops it and a reset, and not the other, who finds its own blocks. */
 static void one_refused(const char *what, size_t owner)
 {
     const struct map *other = &maps[1 - owner];
     size_t k;
     refused(what, owner, 39);
+    check(is(reset(), 39, 0) && untouched(), what);
     for (k = 0; k < other->count; k++) {
         keep();
         check(length_right(1 - owner, other->tile[k]) && fetch_right(1 - owner, other->tile[k], other->length[k]), what);
@@ -391,6 +394,7 @@ static void damaged_lists(size_t owner)
         mine[k] = mine[twin];
         own[1] = held;
         refused("a tile twice among many", owner, 39);
+        check(is(reset(), 39, 0) && untouched(), "a reset of a tile twice among many");
         own[1] = held - 1;
         keep();
         check(is(length_of(owner, 4), 32, 0) && untouched(), "the second one not held");
@@ -398,23 +402,69 @@ static void damaged_lists(size_t owner)
         mine[k] = old;
     }
 
-    /* A reset mends it. */
+    /* A set-up mends it. */
     own[1] = (size_t)0 - 1;
     refused("beyond repair", owner, 39);
-    keep();
-    check(reset_right(), "a reset of a damaged list");
+    check(is(reset(), 39, 0) && untouched(), "a reset of a damaged list");
+    check(set_up_right(23, 10, 11), "a set-up of a damaged list");
     keep();
     check(put_right(owner, 5, 5), "mended");
     keep();
     check(put_right(1 - owner, 5, 0), "mended, and the other's too");
+    keep();
+    check(reset_right(), "a reset of what was mended");
+}
+
+/* Each number of the set-up by any other number, the rest as it was. Of 23 bytes 10 and 11 are the owners', and 2 are left over. */
+static void damaged_set_up(void)
+{
+    static const size_t at[] = {0, 1, 1 + OWN, LEFT};
+    size_t k, other;
+    three();
+    for (k = 0; k < 4; k++) {
+        size_t *number = list + at[k], was = *number;
+        for (other = 0; other < 100; other++)
+            if (other != was) {
+                *number = other;
+                both_refused("one number of the set-up");
+            }
+        for (other = 0; other < LARGE_NUMBERS; other++) {
+            *number = large_numbers[other];
+            both_refused("one number of the set-up, large");
+            *number = (size_t)0 - large_numbers[other];
+            both_refused("one number of the set-up, large, from the other end");
+            *number = was + large_numbers[other];
+            both_refused("one number of the set-up, far off");
+        }
+        for (other = 0; other < 64; other++) {
+            *number = was ^ (size_t)1 << other;
+            both_refused("one bit of a number of the set-up");
+        }
+        *number = was;
+        keep();
+        check(all_right(), "the number as it was");
+    }
+
+    /* Two numbers that still add up are not seen: owner 1's bytes start one byte early, and what it fetches is not what it put. */
+    list[1] = 9;
+    list[LEFT] = 3;
+    keep();
+    check(is(fetch(1, 1, 3), 0, 0) && out[0] == bytes[9] && memcmp(out + 1, maps[1].bytes[place_of(&maps[1], 1)], 2) == 0,
+          "two numbers of the set-up that add up");
+    check(is(length_of(1, 1), 0, 3) && is(length_of(0, 1), 0, 3), "their lengths");
+    list[1] = 10;
+    list[LEFT] = 2;
+    keep();
+    check(all_right(), "both numbers as they were");
 }
 
 static void damages(void)
 {
-    static const size_t wrong[] = {0, 1, 2, 32, 34, 35, 63, 65, 66, 68, 70, (size_t)1 << 32};
+    static const size_t wrong[] = {0, 1, 2, 32, 34, 35, 63, 65, 66, 68, 69, 71, (size_t)1 << 32};
     size_t k;
     damaged_lists(0);
     damaged_lists(1);
+    damaged_set_up();
     three();
     for (k = 0; k < LARGE_NUMBERS; k++) {
         list[0] = large_numbers[k];
@@ -431,12 +481,19 @@ static void damages(void)
     }
     list[1] = 13;
     both_refused("quotas one byte over");
+    list[LEFT] = (size_t)0 - 1;
+    both_refused("quotas one byte over, and the sum wraps to the room");
     list[1] = 10;
+    list[LEFT] = 2;
     list[0] = 22;
     both_refused("a room one less");
+    list[LEFT] = 1;
+    both_refused("a room one less that adds up");
     list[0] = 24;
-    both_refused("a room one more");
+    list[LEFT] = 3;
+    both_refused("a room one more that adds up");
     list[0] = 23;
+    list[LEFT] = 2;
     for (k = 0; k < sizeof wrong / sizeof wrong[0]; k++) {
         told.tiles = wrong[k];
         both_refused("tiles of another length");
@@ -461,6 +518,7 @@ static void damages(void)
     /* A forged room, over a buffer that is as long. */
     reach = sizeof now.bytes;
     list[0] = told.bytes = ROOM + 1;
+    list[LEFT] = ROOM + 1 - 10 - 11;
     both_refused("a room over 65,536");
 }
 
@@ -488,9 +546,9 @@ static void set_ups(void)
     check(is(setup(ROOM, 1), 35, 0) && untouched(), "35 before 39");
     tell(ROOM);
     told.list = LIST - 1;
-    check(is(setup(1, 1), 39, 0) && untouched(), "a list of 68");
+    check(is(setup(1, 1), 39, 0) && untouched(), "a list of 69");
     told.list = LIST + 1;
-    check(is(setup(1, 1), 39, 0) && untouched(), "a list of 70");
+    check(is(setup(1, 1), 39, 0) && untouched(), "a list of 71");
     check(is(crewelmarsh_store_setup(1, 1, NULL, 0, tiles, TILES, bytes, ROOM), 39, 0) && untouched(), "no list");
     tell(ROOM);
     told.tiles = TILES - 1;

@@ -5,7 +5,7 @@
 #   make example       builds and runs examples/codec.c, examples/decoder.c and examples/components.c
 #   make example-test  the same, and what each writes is held to examples/NAME.expected
 #   make parts         the archive, and beside it what the C tests and the examples are linked from
-#   make boundary      the test of the C boundary: header, names, every entry and answer, the oracle's list of lanczos
+#   make boundary      the test of the C boundary: header, names, instructions, stack, every entry and answer, the oracle's list of lanczos
 #
 # ARCHIVE=PATH tests another archive with the same entries.
 
@@ -32,11 +32,13 @@ MAJOR := $(call said,MAJOR)
 VERSION := $(MAJOR).$(call said,MINOR).$(call said,PATCH)
 ENTRIES := $(shell sed -n 's/^.define \(crewelmarsh_[a-z_]*\) CREWELMARSH_NAME.*/\1_abi$(MAJOR)/p' include/crewelmarsh.h)
 
-# tools/counts has how many checks the boundary's test makes, and how many cases the oracle's list of lanczos has, which its runner (oracle/runner.c) puts through the archive.
+# tools/counts has how many checks the boundary's test makes, how many that of stack and floating-point state (tests/machine/calls.c), and how many cases the oracle's list of
+# lanczos has, which its runner (oracle/runner.c) puts through the archive.
 counted = $(shell sed -n 's/^$(1) //p' tools/counts)
 BOUNDARY_CHECKS := $(call counted,boundary-checks)
+MACHINE_CHECKS := $(call counted,machine-checks)
 LIST_CASES := $(call counted,list-cases)
-BOUNDARY_PARTS := boundary check eigen svd row solve qr marks sizes numbers block covariance store steps tally lanczos header header_cpp
+BOUNDARY_PARTS := boundary check eigen svd row solve qr marks sizes numbers block covariance store steps tally lanczos leading header header_cpp
 BOUNDARY_OBJECTS := $(BOUNDARY_PARTS:%=build/tests/%.o)
 
 TARGET_FLAGS := --target=x86_64-unknown-linux-gnu -march=x86-64 --no-default-config \
@@ -46,7 +48,7 @@ C99 = $(CLANG) $(TARGET_FLAGS) $(WARNINGS) -std=c99
 CPLUSPLUS = $(CLANG) $(TARGET_FLAGS) $(WARNINGS) -x c++ -std=c++98
 HEADERS := include/crewelmarsh.h $(wildcard tools/headers/*.h)
 
-.PHONY: archive parts example example-test boundary boundary-names boundary-header boundary-run boundary-list FORCE
+.PHONY: archive parts example example-test boundary boundary-names boundary-machine boundary-header boundary-run boundary-list FORCE
 
 archive: dist/libcrewelmarsh.a dist/crewelmarsh.h dist/LICENSE dist/NOTICE
 
@@ -67,7 +69,7 @@ dist/LICENSE dist/NOTICE: dist/%: %
 
 EXAMPLES := codec decoder components
 
-parts: archive $(BOUNDARY_OBJECTS) build/tests/runner.o $(EXAMPLES:%=build/examples/%.o)
+parts: archive $(BOUNDARY_OBJECTS) build/tests/runner.o build/tests/machine.o $(EXAMPLES:%=build/examples/%.o)
 
 example: $(EXAMPLES:%=build/examples/%)
 	@for name in $(EXAMPLES); do $(RUN) build/examples/$$name || exit 1; done
@@ -86,10 +88,19 @@ build/examples/%.o: examples/%.c $(HEADERS)
 	@mkdir -p $(@D)
 	@$(C99) -c $< -o $@
 
-boundary: boundary-names boundary-header boundary-run boundary-list
+boundary: boundary-names boundary-machine boundary-header boundary-run boundary-list
 
 boundary-names: $(ARCHIVE)
 	@sh tests/exports.sh $(ARCHIVE) $(ENTRIES)
+
+# What x86-64 gets: names that are needed, instructions, stack, floating-point state.
+boundary-machine: build/tests/machine
+	@sh tests/machine/wrong.sh $(CLANG) $(TOOLCHAIN)/bin/llvm-ar
+	@od -A n -v -t u1 $(ARCHIVE) | awk -v NEEDED='memcpy memmove memset' -f tests/machine/code.awk
+	@if ! $(RUN) $< >build/tests/machine.out; then cat build/tests/machine.out; exit 1; fi
+	@tail -n 1 build/tests/machine.out
+	@tail -n 1 build/tests/machine.out | grep -qx 'machine: $(MACHINE_CHECKS) checks, 0 failed' || \
+	    { echo 'machine: $(MACHINE_CHECKS) checks were expected'; exit 1; }
 
 # The header alone, in each language that a caller may use.
 boundary-header: $(HEADERS)
@@ -97,6 +108,7 @@ boundary-header: $(HEADERS)
 	    $(C99) -std=$$std -fsyntax-only tests/header.c || exit 1; done
 	@for std in c++98 c++11 c++17 c++23; do \
 	    $(CPLUSPLUS) -std=$$std -fsyntax-only tests/header.c || exit 1; done
+	@awk 'length > 120 { print FILENAME ":" FNR ": over 120 characters"; bad = 1 } END { exit bad }' include/crewelmarsh.h
 	@echo 'header: C99, C11, C23, C++98, C++11, C++17, C++23, no warning'
 
 # Both the status and the count: a test that ran fewer checks did not run.
@@ -119,6 +131,13 @@ build/tests/boundary: $(BOUNDARY_OBJECTS) $(ARCHIVE) FORCE
 
 build/tests/runner: build/tests/runner.o $(ARCHIVE) FORCE
 	@$(LINK) -o $@ $(filter-out FORCE,$^) 2>$@.log || { cat $@.log; exit 1; }
+
+build/tests/machine: build/tests/machine.o $(ARCHIVE) FORCE
+	@$(LINK) -o $@ $(filter-out FORCE,$^) 2>$@.log || { cat $@.log; exit 1; }
+
+build/tests/machine.o: tests/machine/calls.c $(HEADERS)
+	@mkdir -p $(@D)
+	@$(C99) -c $< -o $@
 
 build/tests/runner.o: oracle/runner.c
 	@mkdir -p $(@D)

@@ -7,7 +7,7 @@
 #   safety-only      `pub` functions of any crate with no `ensures`: docs/PROMISES.md names them
 #   labels           theorems: the different N of the statements tN-NAME of the crate promises
 #   statements       those statements
-#   boundary-checks  what the C tests ran, list-cases the cases of lanczos' list: tools/c.mk holds the runs to them
+#   boundary-checks  what the C tests ran, machine-checks what tests/machine ran, list-cases the cases of lanczos' list: tools/c.mk holds the runs to them
 set -u
 CDPATH='' cd -- "$(dirname "$0")/.." || exit 2
 status=0
@@ -36,9 +36,9 @@ holds safety-only "$(find crates -path '*/src/*.rt' | sort | xargs awk '
     END { print n + 0 }')"
 holds labels "$(statements | sort -u | wc -l | tr -d ' ')"
 holds statements "$(statements | wc -l | tr -d ' ')"
-for name in boundary-checks list-cases; do
+for name in boundary-checks machine-checks list-cases; do
     [ -n "$(said $name)" ] || { echo "counts: tools/counts has no number $name" >&2; status=1; }
 done
-[ "$(grep -vc '^#' tools/counts)" -eq 8 ] || { echo 'counts: tools/counts has one line for each of eight counts' >&2; status=1; }
+[ "$(grep -vc '^#' tools/counts)" -eq 9 ] || { echo 'counts: tools/counts has one line for each of nine counts' >&2; status=1; }
 [ "$status" -ne 0 ] || echo "counts: $(sed '/^#/d' tools/counts | tr '\n' ',' | sed 's/,$//; s/,/, /g')"
 exit $status

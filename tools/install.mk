@@ -1,9 +1,11 @@
 # Installing and releasing. The version is the header's (tools/c.mk reads it). Needs what tools/c.mk needs, and tar for a release.
 #
 #   make shared          dist/libcrewelmarsh.so.VERSION, from the archive
-#   make install         archive, shared library, header, pkg-config file, CMake package, LICENSE, NOTICE and the book, under PREFIX; without python3 no book
+#   make install         archive, shared library, header, pkg-config file, CMake package, documents, LICENSE, NOTICE and the book, under PREFIX; without python3 no book
 #   make release         the same files in dist/crewelmarsh-VERSION-x86_64-linux.tar, with checksums and what they were built from
 #   make install-test    all of that tried in a scratch folder with gcc, g++, pkg-config and cmake (GCC, GXX and RUNNER elsewhere than on x86-64)
+#
+#   make archive-again   the archive built once more from a copy of this tree in another folder, and compared (FRESH=1 proves everything there from nothing)
 #
 # PREFIX=/usr/local  where the files will stand; LIB=lib is the libraries' folder in it, of one part or several.
 # DESTDIR=DIR        is put before PREFIX while copying, for making a package.
@@ -16,7 +18,10 @@ LIB ?= lib
 SHARED := $(dir $(ARCHIVE))libcrewelmarsh.so.$(VERSION)
 RELEASE := $(dir $(ARCHIVE))crewelmarsh-$(VERSION)-x86_64-linux
 
-.PHONY: shared install release install-test
+.PHONY: shared install install-fits release install-test archive-again
+
+# As they were given, for the scripts: make itself would take a space in them for the end of a word.
+export PREFIX DESTDIR LIB
 
 shared: $(SHARED)
 
@@ -26,7 +31,10 @@ $(SHARED): $(ARCHIVE)
 	    --whole-archive $(ARCHIVE) --no-whole-archive \
 	    --as-needed $(LIBRARY)/libc.so.6 $(LIBRARY)/libgcc_s.so.1 $(LIBRARY)/ld-linux-x86-64.so.2
 
-install: $(ARCHIVE) $(SHARED)
+install-fits:
+	@sh tools/install/fits.sh
+
+install: install-fits $(ARCHIVE) $(SHARED)
 	@sh tools/install/install.sh $(DESTDIR)$(abspath $(PREFIX)) $(abspath $(PREFIX)) $(LIB) $(VERSION) $(ARCHIVE) $(SHARED)
 	@echo 'crewelmarsh $(VERSION) is in $(DESTDIR)$(abspath $(PREFIX))'
 
@@ -35,3 +43,6 @@ release: $(ARCHIVE) $(SHARED)
 
 install-test: $(ARCHIVE) $(SHARED)
 	@MAKE='$(MAKE)' ARCHIVE='$(ARCHIVE)' GCC='$(GCC)' GXX='$(GXX)' RUNNER='$(RUNNER)' sh tests/install.sh $(VERSION) $(ENTRIES)
+
+archive-again: $(ARCHIVE)
+	@RT='$(RT)' FRESH='$(FRESH)' sh tools/install/again.sh $(ARCHIVE)

@@ -71,25 +71,49 @@ pub fn read(block: &[u8]) -> Result<Block, usize> {
     }
 }
 
-/// The bytes of a kind's part, if the block is one and has it.
-pub fn part(block: &[u8], kind: usize) -> Option<Range<usize>> {
-    read(block).ok()?.parts.into_iter().find(|(k, _)| *k == kind).map(|(_, range)| range)
+/// What the lookup says of two blocks and a kind.
+#[derive(Clone, Copy, Debug, Default, PartialEq)]
+pub struct Found {
+    /// 1 the tile's own block, 2 the main one, 0 neither.
+    pub block: usize,
+    /// Where in it the part starts, and how many numbers it has.
+    pub start: usize,
+    pub count: usize,
+    /// That block's.
+    pub rows: usize,
+    pub columns: usize,
+    /// What the reader says of each block: 0, or the refusal.
+    pub own_answer: usize,
+    pub main_answer: usize,
 }
 
-/// 1 the tile's own block, 2 the main one, 0 neither; where in it the part starts, and how many numbers it has.
-pub fn find(own: &[u8], main: &[u8], kind: usize) -> (usize, usize, usize) {
-    [own, main]
-        .iter()
-        .zip(1..)
-        .find_map(|(block, which)| part(block, kind).map(|range| (which, range.start, range.len() / 8)))
-        .unwrap_or((0, 0, 0))
+pub fn find(own: &[u8], main: &[u8], kind: usize) -> Found {
+    let (own, main) = (read(own), read(main));
+    let answer = |block: &Result<Block, usize>| block.as_ref().err().copied().unwrap_or(0);
+    let answers = Found { own_answer: answer(&own), main_answer: answer(&main), ..Found::default() };
+    for (which, block) in [(1, &own), (2, &main)] {
+        let Ok(block) = block else { continue };
+        if let Some((_, range)) = block.parts.iter().find(|(k, _)| *k == kind) {
+            return Found { block: which, start: range.start, count: range.len() / 8, rows: block.rows, columns: block.columns, ..answers };
+        }
+    }
+    answers
 }
 
-/// The numbers of that part, by their bits.
-pub fn numbers(own: &[u8], main: &[u8], kind: usize) -> Vec<u64> {
-    let (which, start, count) = find(own, main, kind);
-    let block = if which == 1 { own } else { main };
-    block[start..start + 8 * count].chunks_exact(8).map(|eight| u64::from_be_bytes(eight.try_into().unwrap())).collect()
+/// The bytes of that part.
+pub fn part<'a>(own: &'a [u8], main: &'a [u8], found: &Found) -> &'a [u8] {
+    let block = if found.block == 1 { own } else { main };
+    &block[found.start..found.start + 8 * found.count]
+}
+
+/// The numbers of that part, by their bits, for so much room; before them the place, which is the reader's answer for the tile's own block. Or 6.
+pub fn copied(own: &[u8], main: &[u8], kind: usize, room: usize) -> Result<(usize, Vec<u64>), usize> {
+    let found = find(own, main, kind);
+    if found.count != room {
+        return Err(6);
+    }
+    let words = part(own, main, &found).chunks_exact(8).map(|eight| u64::from_be_bytes(eight.try_into().unwrap()));
+    Ok((found.own_answer, words.collect()))
 }
 
 /// Refusals 22 and 23 for what is to be written, in the reader's order; each part by its kind and count.

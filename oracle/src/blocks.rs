@@ -34,13 +34,14 @@ fn reads(t: &[u8]) -> Case {
     Case { asked: [small(&[1, t.len()]), t.to_vec()].concat(), wanted: large(&numbers) }
 }
 
-/// The part's block, place and count, its length, and its bytes.
+/// What is found, the part's length, and its bytes.
 fn finds(own: &[u8], main: &[u8], kind: usize) -> Case {
-    let (which, start, count) = block::find(own, main, kind);
-    let part = if which == 1 { &own[start..start + 8 * count] } else { &main[start..start + 8 * count] };
+    let found = block::find(own, main, kind);
+    let part = block::part(own, main, &found);
+    let block::Found { block, start, count, rows, columns, own_answer, main_answer } = found;
     Case {
         asked: [small(&[2, kind, own.len(), main.len()]), own.to_vec(), main.to_vec()].concat(),
-        wanted: [large(&[which, start, count, part.len()]), part.to_vec()].concat(),
+        wanted: [large(&[block, start, count, rows, columns, own_answer, main_answer, part.len()]), part.to_vec()].concat(),
     }
 }
 

@@ -27,7 +27,7 @@ unsafe fn lent_mut<'a>(start: *mut f64, len: usize) -> &'a mut [f64] {
 }
 
 #[unsafe(no_mangle)]
-pub unsafe extern "C" fn crewelmarsh_symmetric_eigen_abi4(
+pub unsafe extern "C" fn crewelmarsh_symmetric_eigen_abi5(
     n: usize,
     limit: usize,
     edition: usize,
@@ -44,7 +44,7 @@ pub unsafe extern "C" fn crewelmarsh_symmetric_eigen_abi4(
 }
 
 #[unsafe(no_mangle)]
-pub unsafe extern "C" fn crewelmarsh_eigen_start_abi4(
+pub unsafe extern "C" fn crewelmarsh_eigen_start_abi5(
     n: usize,
     limit: usize,
     edition: usize,
@@ -59,17 +59,17 @@ pub unsafe extern "C" fn crewelmarsh_eigen_start_abi4(
 }
 
 #[unsafe(no_mangle)]
-pub unsafe extern "C" fn crewelmarsh_eigen_step_abi4(run: Run, work: *mut f64, work_len: usize, result: *mut f64, result_len: usize) -> Run {
+pub unsafe extern "C" fn crewelmarsh_eigen_step_abi5(run: Run, work: *mut f64, work_len: usize, result: *mut f64, result_len: usize) -> Run {
     unsafe { steps::step(run, lent_mut(work, work_len), lent_mut(result, result_len)) }
 }
 
 #[unsafe(no_mangle)]
-pub unsafe extern "C" fn crewelmarsh_eigen_finish_abi4(run: Run, work: *mut f64, work_len: usize, result: *mut f64, result_len: usize) -> Run {
+pub unsafe extern "C" fn crewelmarsh_eigen_finish_abi5(run: Run, work: *mut f64, work_len: usize, result: *mut f64, result_len: usize) -> Run {
     unsafe { steps::finish(run, lent_mut(work, work_len), lent_mut(result, result_len)) }
 }
 
 #[unsafe(no_mangle)]
-pub unsafe extern "C" fn crewelmarsh_svd_abi4(
+pub unsafe extern "C" fn crewelmarsh_svd_abi5(
     m: usize,
     n: usize,
     want_u: usize,
@@ -89,7 +89,7 @@ pub unsafe extern "C" fn crewelmarsh_svd_abi4(
 }
 
 #[unsafe(no_mangle)]
-pub unsafe extern "C" fn crewelmarsh_lanczos_abi4(
+pub unsafe extern "C" fn crewelmarsh_lanczos_abi5(
     n: usize,
     k: usize,
     limit: usize,
@@ -109,6 +109,37 @@ pub unsafe extern "C" fn crewelmarsh_lanczos_abi4(
     }
 }
 
+/// Ours, no document has it: the last k values of an eigen result, from the last one back, and their columns as rows.
+fn leading(n: usize, k: usize, result: &[f64], out: &mut [f64]) -> Answer {
+    if n > patched::LARGEST {
+        return patched::told(1, 0, 0);
+    }
+    if k > n {
+        return patched::told(15, 0, 0);
+    }
+    if let Some(place) = patched::first_wrong(&[(result.len(), n + n * n), (out.len(), k + k * n)]) {
+        return patched::told(6, place, 0);
+    }
+    out.fill(0.0);
+    if let Some(place) = patched::first_bad(result) {
+        return patched::told(7, place, 0);
+    }
+    let (values, vectors) = result.split_at(n);
+    let (kept, rows) = out.split_at_mut(k);
+    for (t, j) in (n - k..n).rev().enumerate() {
+        kept[t] = values[j];
+        for i in 0..n {
+            rows[t * n + i] = vectors[i * n + j];
+        }
+    }
+    patched::told(0, 0, 0)
+}
+
+#[unsafe(no_mangle)]
+pub unsafe extern "C" fn crewelmarsh_leading_abi5(n: usize, k: usize, result: *const f64, result_len: usize, out: *mut f64, out_len: usize) -> Answer {
+    unsafe { leading(n, k, lent(result, result_len), lent_mut(out, out_len)) }
+}
+
 #[repr(C)]
 pub struct Extent {
     start: usize,
@@ -116,7 +147,7 @@ pub struct Extent {
 }
 
 #[unsafe(no_mangle)]
-pub extern "C" fn crewelmarsh_vt_row_extent_abi4(
+pub extern "C" fn crewelmarsh_vt_row_extent_abi5(
     m: usize,
     n: usize,
     has_u: usize,
@@ -129,7 +160,7 @@ pub extern "C" fn crewelmarsh_vt_row_extent_abi4(
 }
 
 #[unsafe(no_mangle)]
-pub unsafe extern "C" fn crewelmarsh_solve_abi4(
+pub unsafe extern "C" fn crewelmarsh_solve_abi5(
     m: usize,
     n: usize,
     has_u: usize,
@@ -149,7 +180,7 @@ pub unsafe extern "C" fn crewelmarsh_solve_abi4(
 }
 
 #[unsafe(no_mangle)]
-pub unsafe extern "C" fn crewelmarsh_pseudo_inverse_abi4(
+pub unsafe extern "C" fn crewelmarsh_pseudo_inverse_abi5(
     m: usize,
     n: usize,
     has_u: usize,
@@ -167,7 +198,7 @@ pub unsafe extern "C" fn crewelmarsh_pseudo_inverse_abi4(
 }
 
 #[unsafe(no_mangle)]
-pub unsafe extern "C" fn crewelmarsh_qr_q_abi4(
+pub unsafe extern "C" fn crewelmarsh_qr_q_abi5(
     m: usize,
     k: usize,
     matrix: *const f64,
@@ -201,7 +232,7 @@ pub struct Shape {
 }
 
 #[unsafe(no_mangle)]
-pub unsafe extern "C" fn crewelmarsh_block_check_abi4(block: *const u8, block_len: usize) -> Shape {
+pub unsafe extern "C" fn crewelmarsh_block_check_abi5(block: *const u8, block_len: usize) -> Shape {
     match block::read(unsafe { bytes(block, block_len) }) {
         Ok(b) => Shape { answer: 0, rows: b.rows, columns: b.columns, parts: b.parts.len() },
         Err(answer) => Shape { answer, rows: 0, columns: 0, parts: 0 },
@@ -213,22 +244,27 @@ pub struct Found {
     block: usize,
     start: usize,
     count: usize,
+    rows: usize,
+    columns: usize,
+    own_answer: usize,
+    main_answer: usize,
 }
 
 #[unsafe(no_mangle)]
-pub unsafe extern "C" fn crewelmarsh_block_find_abi4(
+pub unsafe extern "C" fn crewelmarsh_block_find_abi5(
     own: *const u8,
     own_len: usize,
     main_block: *const u8,
     main_len: usize,
     kind: usize,
 ) -> Found {
-    let (block, start, count) = unsafe { block::find(bytes(own, own_len), bytes(main_block, main_len), kind) };
-    Found { block, start, count }
+    let block::Found { block, start, count, rows, columns, own_answer, main_answer } =
+        unsafe { block::find(bytes(own, own_len), bytes(main_block, main_len), kind) };
+    Found { block, start, count, rows, columns, own_answer, main_answer }
 }
 
 #[unsafe(no_mangle)]
-pub unsafe extern "C" fn crewelmarsh_block_copy_abi4(
+pub unsafe extern "C" fn crewelmarsh_block_copy_abi5(
     own: *const u8,
     own_len: usize,
     main_block: *const u8,
@@ -237,17 +273,18 @@ pub unsafe extern "C" fn crewelmarsh_block_copy_abi4(
     out: *mut f64,
     out_len: usize,
 ) -> Answer {
-    let words = unsafe { block::numbers(bytes(own, own_len), bytes(main_block, main_len), kind) };
-    if words.len() != out_len {
-        return refused(6);
+    match unsafe { block::copied(bytes(own, own_len), bytes(main_block, main_len), kind, out_len) } {
+        Err(answer) => refused(answer),
+        Ok((place, words)) => {
+            let out = unsafe { lent_mut(out, out_len) };
+            out.iter_mut().zip(words).for_each(|(x, w)| *x = f64::from_bits(w));
+            Answer { place, ..refused(0) }
+        }
     }
-    let out = unsafe { lent_mut(out, out_len) };
-    out.iter_mut().zip(words).for_each(|(x, w)| *x = f64::from_bits(w));
-    refused(0)
 }
 
 #[unsafe(no_mangle)]
-pub extern "C" fn crewelmarsh_block_length_abi4(
+pub extern "C" fn crewelmarsh_block_length_abi5(
     rows: usize,
     columns: usize,
     parts: usize,
@@ -259,7 +296,7 @@ pub extern "C" fn crewelmarsh_block_length_abi4(
 }
 
 #[unsafe(no_mangle)]
-pub unsafe extern "C" fn crewelmarsh_block_write_abi4(
+pub unsafe extern "C" fn crewelmarsh_block_write_abi5(
     rows: usize,
     columns: usize,
     parts: usize,
@@ -314,7 +351,7 @@ fn covariance(n: usize, count: usize, samples: &[i16], matrix: &mut [f64]) -> An
 }
 
 #[unsafe(no_mangle)]
-pub unsafe extern "C" fn crewelmarsh_covariance_abi4(
+pub unsafe extern "C" fn crewelmarsh_covariance_abi5(
     n: usize,
     count: usize,
     samples: *const i16,
@@ -328,6 +365,35 @@ pub unsafe extern "C" fn crewelmarsh_covariance_abi4(
     }
 }
 
+#[unsafe(no_mangle)]
+pub unsafe extern "C" fn crewelmarsh_sums_abi5(
+    n: usize,
+    count: usize,
+    samples: *const i16,
+    samples_len: usize,
+    out: *mut f64,
+    out_len: usize,
+) -> Answer {
+    let refused = |answer, place| Answer { answer, place, index: 0, count: 0 };
+    if n > 256 {
+        return refused(1, 0);
+    }
+    if !(1..=65536).contains(&count) {
+        return refused(25, 0);
+    }
+    if samples_len != n * count {
+        return refused(6, 0);
+    }
+    if out_len != n {
+        return refused(6, 1);
+    }
+    let (samples, out) = unsafe { (of(samples, samples_len), lent_mut(out, out_len)) };
+    for (band, sum) in samples.chunks(count).zip(out) {
+        *sum = band.iter().map(|&s| s as i64).sum::<i64>() as f64;
+    }
+    refused(0, 0)
+}
+
 // ---------------------------------------------------------------- the store
 
 unsafe fn of<'a, T>(start: *const T, len: usize) -> &'a [T] {
@@ -339,7 +405,7 @@ unsafe fn of_mut<'a, T>(start: *mut T, len: usize) -> &'a mut [T] {
 }
 
 #[unsafe(no_mangle)]
-pub unsafe extern "C" fn crewelmarsh_store_setup_abi4(
+pub unsafe extern "C" fn crewelmarsh_store_setup_abi5(
     quota0: usize,
     quota1: usize,
     list: *mut usize,
@@ -353,7 +419,7 @@ pub unsafe extern "C" fn crewelmarsh_store_setup_abi4(
 }
 
 #[unsafe(no_mangle)]
-pub unsafe extern "C" fn crewelmarsh_store_put_abi4(
+pub unsafe extern "C" fn crewelmarsh_store_put_abi5(
     owner: usize,
     list: *mut usize,
     list_len: usize,
@@ -369,7 +435,7 @@ pub unsafe extern "C" fn crewelmarsh_store_put_abi4(
 }
 
 #[unsafe(no_mangle)]
-pub unsafe extern "C" fn crewelmarsh_store_length_abi4(
+pub unsafe extern "C" fn crewelmarsh_store_length_abi5(
     owner: usize,
     list: *const usize,
     list_len: usize,
@@ -384,7 +450,7 @@ pub unsafe extern "C" fn crewelmarsh_store_length_abi4(
 }
 
 #[unsafe(no_mangle)]
-pub unsafe extern "C" fn crewelmarsh_store_fetch_abi4(
+pub unsafe extern "C" fn crewelmarsh_store_fetch_abi5(
     owner: usize,
     list: *const usize,
     list_len: usize,
@@ -400,7 +466,7 @@ pub unsafe extern "C" fn crewelmarsh_store_fetch_abi4(
 }
 
 #[unsafe(no_mangle)]
-pub unsafe extern "C" fn crewelmarsh_store_drop_abi4(
+pub unsafe extern "C" fn crewelmarsh_store_drop_abi5(
     owner: usize,
     list: *mut usize,
     list_len: usize,
@@ -414,7 +480,7 @@ pub unsafe extern "C" fn crewelmarsh_store_drop_abi4(
 }
 
 #[unsafe(no_mangle)]
-pub unsafe extern "C" fn crewelmarsh_store_reset_abi4(
+pub unsafe extern "C" fn crewelmarsh_store_reset_abi5(
     list: *mut usize,
     list_len: usize,
     tiles: *const u16,
@@ -428,6 +494,6 @@ pub unsafe extern "C" fn crewelmarsh_store_reset_abi4(
 // ---------------------------------------------------------------- the tally
 
 #[unsafe(no_mangle)]
-pub unsafe extern "C" fn crewelmarsh_tally_add_abi4(tally: *mut tally::Tally, answer: usize, passes: usize) -> usize {
+pub unsafe extern "C" fn crewelmarsh_tally_add_abi5(tally: *mut tally::Tally, answer: usize, passes: usize) -> usize {
     unsafe { tally::add(&mut *tally, answer, passes) }
 }

@@ -3,16 +3,17 @@
 
 pub const ENTRIES: usize = 32;
 const OWN: usize = ENTRIES + 2;
-const LIST: usize = 1 + 2 * OWN;
+const LEFT: usize = 1 + 2 * OWN;
+const LIST: usize = LEFT + 1;
 const MOST: usize = 65536;
 
 /// What an owner holds, in the order in which the blocks stand.
 type Held = Vec<(u16, Vec<u8>)>;
 
-/// Room, quotas and lengths are such as a set-up leaves.
+/// Lengths are such as a set-up leaves, and so are room, quotas and what they leave over: these three add up to the room.
 fn laid(list: &[usize], tiles: &[u16], bytes: &[u8]) -> bool {
-    let fits = |list: &[usize]| list[1].checked_add(list[1 + OWN]).is_some_and(|both| both <= list[0]);
-    list.len() == LIST && tiles.len() == 2 * ENTRIES && list[0] <= MOST && bytes.len() == list[0] && fits(list)
+    let sum = |list: &[usize]| [list[1], list[1 + OWN], list[LEFT]].iter().map(|&x| x as u128).sum::<u128>();
+    list.len() == LIST && tiles.len() == 2 * ENTRIES && list[0] <= MOST && bytes.len() == list[0] && sum(list) == list[0] as u128
 }
 
 /// An owner's arrays read as a map; else 34 or 39.
@@ -69,11 +70,12 @@ pub fn set_up(quota0: usize, quota1: usize, list: &mut [usize], tiles: &[u16], b
         list[1 + owner * OWN] = quota;
         list[2 + owner * OWN] = 0;
     }
+    list[LEFT] = bytes.len() - (quota0 + quota1);
     0
 }
 
 pub fn reset(list: &mut [usize], tiles: &[u16], bytes: &[u8]) -> usize {
-    if !laid(list, tiles, bytes) {
+    if (0..2).any(|owner| read(owner, list, tiles, bytes).is_err()) {
         return 39;
     }
     for owner in 0..2 {

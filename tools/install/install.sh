@@ -1,11 +1,12 @@
 #!/bin/sh
-# install.sh ROOT PREFIX LIB VERSION ARCHIVE SHARED: copies what a C codec needs under ROOT, libraries under ROOT/LIB. PREFIX is
-# where pkg-config shall look for it; CMake finds it from its own place. Run at the repository's root.
+# install.sh ROOT PREFIX LIB VERSION ARCHIVE SHARED: copies what a C codec needs under ROOT, libraries under ROOT/LIB, documents under
+# ROOT/share/doc/crewelmarsh. PREFIX is where pkg-config shall look for it; CMake finds it from its own place. Run at the repository's root.
 set -eu
 
 root=$1 prefix=$2 lib=$3 version=$4 archive=$5 shared=$6
 major=${version%%.*}
 up=$(echo "$lib" | sed 's|[^/][^/]*|..|g') # from ROOT/LIB back to ROOT
+docs=$root/share/doc/crewelmarsh
 
 # fill FILE FOLDER: the file from its template.
 fill() {
@@ -20,10 +21,14 @@ put() { # FILE TO
     chmod u=rwX,go=rX "$2"
 }
 
-mkdir -p "$root/include" "$root/$lib/pkgconfig" "$root/$lib/cmake/crewelmarsh" "$root/share/doc/crewelmarsh"
+mkdir -p "$root/include" "$root/$lib/pkgconfig" "$root/$lib/cmake/crewelmarsh" "$docs/examples"
 put include/crewelmarsh.h "$root/include/crewelmarsh.h"
-put LICENSE "$root/share/doc/crewelmarsh/LICENSE"
-put NOTICE "$root/share/doc/crewelmarsh/NOTICE"
+for file in LICENSE NOTICE docs/*; do
+    [ ! -f "$file" ] || put "$file" "$docs/${file##*/}"
+done
+for file in examples/*.c; do
+    put "$file" "$docs/$file"
+done
 put "$archive" "$root/$lib/libcrewelmarsh.a"
 put "$shared" "$root/$lib/libcrewelmarsh.so.$version"
 ln -sf "libcrewelmarsh.so.$version" "$root/$lib/libcrewelmarsh.so.$major"

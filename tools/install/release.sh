@@ -12,7 +12,6 @@ docs=$stage/$folder/share/doc/crewelmarsh
 rm -rf "$stage" "$name.tar"
 # shellcheck disable=SC2016 # pkg-config puts its file's folder in
 sh tools/install/install.sh "$stage/$folder" '${pcfiledir}/../..' lib "$version" "$archive" "$shared"
-cp docs/C.md "$docs/"
 {
     echo "crewelmarsh $version"
     if [ "$archive" = dist/libcrewelmarsh.a ]; then

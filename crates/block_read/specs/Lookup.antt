@@ -5,7 +5,7 @@ use Prim.Native.Nat.{ℕ, _+_, _*_, _/_, _-_}
 use lib.Dec.{eqb}
 use lib.ListN.{length, take, drop}
 use Rattle.grid.specs.Real.{Vec}
-use Rattle.answers.specs.Answers.{done, refused}
+use Rattle.answers.specs.Answers.{answered, refused}
 use Rattle.answers.specs.declared.Answer.{Answer}
 use Rattle.octets.specs.Bytes.{num, wordsAt}
 use Rattle.octets.specs.Bits.{float}
@@ -49,19 +49,22 @@ lookup own main kind = first (spanOf own kind) (partOf own (spanOf own kind)) (p
 unfoldable pub lookupAt : ℕ × ℕ → List ℕ → ℕ × ℕ → List ℕ → ℕ → ℕ × ℕ
 lookupAt p own q main kind = first (spanOf own kind) (partAt p (spanOf own kind)) (partAt q (spanOf main kind))
 
--- the same by three numbers: the block, 1 the tile's own, 2 the main one, where in it the part starts, and how many doubles it has; all 0 where neither has one
-abbrev pub foundIn : ℕ → Span → Found
-foundIn block (At a e) = record { block = block; start = a; count = (e - a) / 8 }
-foundIn block Missing = record { block = 0; start = 0; count = 0 }
+-- the same by its numbers: the block, 1 the tile's own, 2 the main one, where in it the part starts, how many doubles it has, that block's rows and columns;
+-- all 0 where neither has one; then the reader's answers for the tile's own block and for the main one
+abbrev pub foundIn : ℕ → List ℕ → Span → ℕ → ℕ → Found
+foundIn block t (At a e) x y =
+    record { block = block; start = a; count = (e - a) / 8; rows = num 4 t 0; columns = num 4 t 4; «own_answer» = x; «main_answer» = y }
+foundIn block t Missing x y = record { block = 0; start = 0; count = 0; rows = 0; columns = 0; «own_answer» = x; «main_answer» = y }
 
 -- the tile's own part by its three numbers, else the main block's
 unfoldable pub found : List ℕ → List ℕ → ℕ → Found
-found own main kind = first (spanOf own kind) (foundIn 1 (spanOf own kind)) (foundIn 2 (spanOf main kind))
+found own main kind =
+    first (spanOf own kind) (foundIn 1 own (spanOf own kind) (answerOf own) (answerOf main)) (foundIn 2 main (spanOf main kind) (answerOf own) (answerOf main))
 
--- as doubles, where out has room for just these; else 6 and out as it was
-abbrev pub copiedTo : List ℕ → Vec → Answer × Vec
-copiedTo part out = cond (eqb (length part / 8) (length out)) (done 0, map float (wordsAt part 0 (length out))) (refused 6 0, out)
+-- as doubles, where out has room for just these: 0 with that place; else 6 and out as it was
+abbrev pub copiedTo : ℕ → List ℕ → Vec → Answer × Vec
+copiedTo place part out = cond (eqb (length part / 8) (length out)) (answered 0 place 0 0, map float (wordsAt part 0 (length out))) (refused 6 0, out)
 
--- the part that is found, as doubles
+-- the part that is found, as doubles; the place is the reader's answer for the tile's own block
 unfoldable pub copied : List ℕ → List ℕ → ℕ → Vec → Answer × Vec
-copied own main kind out = copiedTo (lookup own main kind) out
+copied own main kind out = copiedTo (answerOf own) (lookup own main kind) out

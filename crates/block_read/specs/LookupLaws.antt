@@ -22,6 +22,11 @@ abbrev pub Within : ℕ → Span → Type 0
 Within len (At a e) = (a ≤ e) × (e ≤ len)
 Within len Missing = Unit
 
+missing-not-at : {a e : ℕ} → Missing ≡ At a e → ⊥
+missing-not-at h =
+    let z : _≡_ {A = ℕ} 0 1 = cc in
+    omega arith
+
 -- ---- the search for a kind
 
 pub place-start : (t : List ℕ) (n kind : ℕ) → placeIn t (n - 0) (12 + 12 * 0) kind ≡ placeIn t n 12 kind
@@ -87,12 +92,24 @@ span-within t kind = go (eqb (answerOf t) 0) (eqb p 0) refl refl
         (omega arith, place-within t (num 4 t 0) (num 4 t 4) (num 4 t 8) 12 0 (12 + 12 * num 4 t 8) kind (opened t (eqb-true (answerOf t) 0 a) .rest) (eqb-false p 0 b))
     go false y a b = tt
 
+-- a block that has a part is taken
+pub span-taken : (t : List ℕ) (kind a e : ℕ) → spanOf t kind ≡ At a e → answerOf t ≡ 0
+unfolding spanOf
+span-taken t kind a e = go (eqb (answerOf t) 0) refl
+  where
+    p : ℕ
+    p = placeIn t (num 4 t 8) 12 kind
+
+    go : (x : Bool) → eqb (answerOf t) 0 ≡ x → cond x (cond (eqb p 0) Missing (At p (p + 8 * size (num 4 t 0) (num 4 t 4) kind))) Missing ≡ At a e → answerOf t ≡ 0
+    go true b h = eqb-true (answerOf t) 0 b
+    go false b h = absurd (missing-not-at h)
+
 -- ---- the tile's own block, then the main one
 
-pub own-found : (s : Span) (x : Found) {r : Found} → r ≡ foundIn 1 s → (r .block ≡ 0 → ⊥) → r ≡ first s (foundIn 1 s) x
-own-found (At a e) x p h = p
-own-found Missing x p h = absurd (h (ap (λ (f : Found). f .block) p))
+pub own-found : (s : Span) (t : List ℕ) (a b : ℕ) (x : Found) {r : Found} → r ≡ foundIn 1 t s a b → (r .block ≡ 0 → ⊥) → r ≡ first s (foundIn 1 t s a b) x
+own-found (At i e) t a b x p h = p
+own-found Missing t a b x p h = absurd (h (ap (λ (f : Found). f .block) p))
 
-pub main-found : (s : Span) (x : Found) {r : Found} → r ≡ foundIn 1 s → r .block ≡ 0 → x ≡ first s (foundIn 1 s) x
-main-found (At a e) x p h = absurd (omega (arith, h, ap (λ (f : Found). f .block) p))
-main-found Missing x p h = refl
+pub main-found : (s : Span) (t : List ℕ) (a b : ℕ) (x : Found) {r : Found} → r ≡ foundIn 1 t s a b → r .block ≡ 0 → x ≡ first s (foundIn 1 t s a b) x
+main-found (At i e) t a b x p h = absurd (omega (arith, h, ap (λ (f : Found). f .block) p))
+main-found Missing t a b x p h = refl

@@ -9,6 +9,7 @@ ghost use Rattle.block_read.specs.LookupLaws.{Within};
 use crate::answer;
 use crate::size;
 use answers::Answer;
+use answers::answered;
 use answers::done;
 use answers::refused;
 use octets::floats;
@@ -42,12 +43,17 @@ pub enum Span {
     Missing,
 }
 
-// A part by its numbers, for a caller in C: the block, 1 the tile's own, 2 the main one, where in it the part starts, how many doubles it has.
+// A part by its numbers, for a caller in C: the block, 1 the tile's own, 2 the main one, where in it the part starts, how many doubles it has, that block's
+// rows and columns. All 0 where neither block has one. Then the reader's answer for each block, so that a refused one is seen.
 #[repr(C)]
 pub struct Found {
     pub block: usize,
     pub start: usize,
     pub count: usize,
+    pub rows: usize,
+    pub columns: usize,
+    pub own_answer: usize,
+    pub main_answer: usize,
 }
 
 // ---- what a block holds
@@ -171,15 +177,19 @@ pub fn find<'a>(own: &'a [u8], main: &'a [u8], kind: usize) -> &'a [u8]
     &own[a..e]
 }
 
-// The part of a kind of one block, by its numbers.
-fn found_in(block: usize, t: &[u8], kind: usize) -> Found
-    ensures { λ r. ⌜ r ≡ foundIn block (spanOf (now (t .entry)) kind) ⌝ }
+// The part of a kind of one block, by its numbers, with both answers as told.
+fn found_in(block: usize, t: &[u8], kind: usize, own_answer: usize, main_answer: usize) -> Found
+    ensures { λ r. ⌜ r ≡ foundIn block (now (t .entry)) (spanOf (now (t .entry)) kind) «own_answer» «main_answer» ⌝ }
 {
     let Span::At(a, e) = span_of(t, kind) else {
         return Found {
             block: 0,
             start: 0,
             count: 0,
+            rows: 0,
+            columns: 0,
+            own_answer: own_answer,
+            main_answer: main_answer,
         };
     };
     let long = e - a;
@@ -187,6 +197,10 @@ fn found_in(block: usize, t: &[u8], kind: usize) -> Found
         block: block,
         start: a,
         count: long / 8,
+        rows: number(t, 0),
+        columns: number(t, 4),
+        own_answer: own_answer,
+        main_answer: main_answer,
     }
 }
 
@@ -194,29 +208,31 @@ fn found_in(block: usize, t: &[u8], kind: usize) -> Found
 pub fn locate(own: &[u8], main: &[u8], kind: usize) -> Found
     ensures { λ r. ⌜ r ≡ found (now (own .entry)) (now (main .entry)) kind ⌝ }
 {
-    let r = found_in(1, own, kind);
+    let x = answer(own);
+    let y = answer(main);
+    let r = found_in(1, own, kind, x, y);
     if r.block == 0 {
-        return found_in(2, main, kind);
+        return found_in(2, main, kind, x, y);
     }
     r
 }
 
 // ---- as doubles
 
-// The doubles of a part, where out has room for just these.
-fn copy_part(part: &[u8], out: &mut [f64]) -> Answer
-    ensures { λ r. ⌜ (r, now (out .exit)) ≡ copiedTo (now (part .entry)) (now (out .entry)) ⌝ }
+// The doubles of a part, where out has room for just these, with that place.
+fn copy_part(place: usize, part: &[u8], out: &mut [f64]) -> Answer
+    ensures { λ r. ⌜ (r, now (out .exit)) ≡ copiedTo place (now (part .entry)) (now (out .entry)) ⌝ }
 {
     if part.len() / 8 != out.len() {
         return refused(6, 0);
     }
     floats(part, out);
-    done(0)
+    answered(0, place, 0, 0)
 }
 
-// The doubles of the part that `find` gives.
+// The doubles of the part that `find` gives. On 0 the place is the reader's answer for the tile's own block, so that a refused one is seen.
 pub fn copy<'a>(own: &'a [u8], main: &'a [u8], kind: usize, out: &mut [f64]) -> Answer
     ensures { λ r. ⌜ (r, now (out .exit)) ≡ copied (now (own .entry)) (now (main .entry)) kind (now (out .entry)) ⌝ }
 {
-    copy_part(find(own, main, kind), out)
+    copy_part(answer(own), find(own, main, kind), out)
 }

@@ -8,7 +8,7 @@ use Rattle.octets.specs.Bytes.{be, three, wordsBytes, num, wordsAt}
 use Rattle.block_read.specs.Content.{Part, size, heads, entriesBytes, numbersBytes, blockOf}
 use Rattle.block_read.specs.Reading.{good, dimensions, headAnswer, entryAnswer, endAnswer, entries, behind, answerOf, partsAt, reading}
 use Rattle.block_read.specs.Held.{placeIn}
-use Rattle.block_read.specs.Lookup.{spanOf, lookup}
+use Rattle.block_read.specs.Lookup.{spanOf, lookup, found}
 use Rattle.block_write.specs.Writing.{given, headsAnswer, checked, bytesOf, lengthWith, lengthOf}
 
 -- one row and two columns: the value 1.0 and an inverse of a NaN with a payload and -0.0
@@ -59,6 +59,11 @@ inverse-found = refl
 pub matrix-missing : lookup block [] 2 ≡ []
 unfolding lookup spanOf placeIn answerOf behind dimensions entries entryAnswer headAnswer size least endAnswer num
 matrix-missing = refl
+
+-- the inverse of the main block where one byte of the tile's own is wrong: where it is, that block's rows and columns, and both answers
+pub damaged-told : found (set block 19 37) block 3 ≡ record { block = 2; start = 44; count = 2; rows = 1; columns = 2; «own_answer» = 24; «main_answer» = 0 }
+unfolding found spanOf placeIn answerOf behind dimensions entries entryAnswer headAnswer size least endAnswer num
+damaged-told = refl
 
 -- the writer's order: rows before kinds, a part's kind before its count, the first part before the second
 pub writer-order :

@@ -18,7 +18,7 @@ use Rattle.block_read.specs.Content.{Part, Words}
 use Rattle.block_read.specs.Reading.{good, reading}
 use Rattle.block_read.specs.Lookup.{copied}
 use Rattle.block_theorems.specs.Sound.{Doubles, hasPart, partWords}
-use Rattle.block_theorems.specs.FoundLaws.{copied-is}
+use Rattle.block_theorems.specs.FoundLaws.{copied-is, taken}
 
 -- ---- one double
 
@@ -87,9 +87,9 @@ doubles-words [] h i l = absurd (not-suc-le-zero l)
 doubles-words (x ∷ xs) h zero l = bits-bound x (h 0 (omega arith))
 doubles-words (x ∷ xs) h (suc i) l = doubles-words xs (tail x xs h) i (omega arith)
 
--- a part that was written from doubles is copied out as they were
+-- a part that was written from doubles is copied out as they were; its block is taken, so the place is 0
 pub doubles-copied : (t main : List ℕ) (r c : ℕ) (ps : List Part) (kind : ℕ) (xs out : Vec) → Bytes t → Bytes main → reading t ≡ good r c ps
     → hasPart kind ps ≡ true → partWords kind ps ≡ map bits xs → Doubles xs → length out ≡ length xs → copied t main kind out ≡ (done 0, xs)
 doubles-copied t main r c ps kind xs out g h e there are fit l =
     let k : length (map bits xs) ≡ length out = length-map xs bits ∙ sym l in
-    copied-is t main kind out g h ∙ rw (e, there, are, eq-eqb (length (map bits xs)) (length out) k, doubles-back xs fit)
+    copied-is t main kind out g h ∙ rw (taken t r c ps e, e, there, are, eq-eqb (length (map bits xs)) (length out) k, doubles-back xs fit)

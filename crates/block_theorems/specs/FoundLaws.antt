@@ -10,7 +10,7 @@ use lib.Dec.{eqb}
 use lib.ListN.{length, take, drop}
 use lib.Seq.{take-all}
 use Rattle.grid.specs.Real.{Vec}
-use Rattle.answers.specs.Answers.{done, refused}
+use Rattle.answers.specs.Answers.{answered, refused}
 use Rattle.answers.specs.declared.Answer.{Answer}
 use Rattle.octets.specs.Bytes.{wordsBytes, num, wordsAt, Bytes}
 use Rattle.octets.specs.Bits.{float}
@@ -107,6 +107,11 @@ lookup-is own main kind g h =
     go Missing true h p q = absurd (true≢false (sym h))
     go Missing false h p q = q
 
+-- a refused own block leaves the main one's part
+pub refused-own : (own main : List ℕ) (kind : ℕ) → (answerOf own ≡ 0 → ⊥) → chosen own main kind ≡ wordsIn kind (reading main)
+unfolding reading
+refused-own own main kind h = rw (ne-eqb (answerOf own) 0 h)
+
 -- ---- the reader's record
 
 held-at : (t : List ℕ) (r c kind p : ℕ) (x : Bool) (ws : List ℕ) → FoundAt t (size r c kind) p x ws → take (8 * held r c kind p) (drop p t) ≡ wordsBytes ws
@@ -120,6 +125,15 @@ not-refused : {a r c : ℕ} {ps : List Part} → reads.refused a ≡ good r c ps
 not-refused e =
     let z : _≡_ {A = ℕ} 0 1 = cc in
     omega arith
+
+-- what is read as a content is taken
+pub taken : (t : List ℕ) (r c : ℕ) (ps : List Part) → reading t ≡ good r c ps → answerOf t ≡ 0
+unfolding reading
+taken t r c ps = go (eqb (answerOf t) 0) refl
+  where
+    go : (x : Bool) → eqb (answerOf t) 0 ≡ x → cond x (good (num 4 t 0) (num 4 t 4) (found t)) (reads.refused (answerOf t)) ≡ good r c ps → answerOf t ≡ 0
+    go true a e = eqb-true (answerOf t) 0 a
+    go false a e = absurd (not-refused e)
 
 pub recorded : (t : List ℕ) (r c : ℕ) (ps : List Part) → Bytes t → reading t ≡ good r c ps → Recorded t r c ps
 unfolding reading blockRead
@@ -189,20 +203,21 @@ words-of : (ws : List ℕ) → Words ws → wordsAt (wordsBytes ws) 0 (length ws
 words-of ws b =
     words-taken (wordsBytes ws) 0 ws (omega (arith, wordsBytes-length ws)) b (take-all (8 * length ws) (wordsBytes ws) (omega (arith, wordsBytes-length ws)))
 
--- the copy is the chosen part's numbers as doubles where there is room for just these, else 6 and nothing is touched
+-- the copy is the chosen part's numbers as doubles where there is room for just these, with the reader's answer for the tile's own block as the place, else
+-- 6 and nothing is touched
 pub copied-is : (own main : List ℕ) (kind : ℕ) (out : Vec) → Bytes own → Bytes main
-    → copied own main kind out ≡ cond (eqb (length (chosen own main kind)) (length out)) (done 0, map float (chosen own main kind)) (refused 6 0, out)
+    → copied own main kind out ≡ cond (eqb (length (chosen own main kind)) (length out)) (answered 0 (answerOf own) 0 0, map float (chosen own main kind)) (refused 6 0, out)
 unfolding copied
 copied-is own main kind out g h = go (chosen own main kind) (lookup-is own main kind g h) (chosen-words own main kind g h)
   where
     go : (ws : List ℕ) → lookup own main kind ≡ wordsBytes ws → Words ws
-        → _≡_ {A = Answer × Vec} (cond (eqb (length (lookup own main kind) / 8) (length out)) (done 0, map float (wordsAt (lookup own main kind) 0 (length out))) (refused 6 0, out))
-        (cond (eqb (length ws) (length out)) (done 0, map float ws) (refused 6 0, out))
+        → _≡_ {A = Answer × Vec} (cond (eqb (length (lookup own main kind) / 8) (length out)) (answered 0 (answerOf own) 0 0, map float (wordsAt (lookup own main kind) 0 (length out))) (refused 6 0, out))
+        (cond (eqb (length ws) (length out)) (answered 0 (answerOf own) 0 0, map float ws) (refused 6 0, out))
     go ws e b =
         let n : length (wordsBytes ws) / 8 ≡ length ws = omega (arith, wordsBytes-length ws) in
         rw (e, n) (same (eqb (length ws) (length out)) refl)
       where
         same : (x : Bool) → eqb (length ws) (length out) ≡ x
-            → _≡_ {A = Answer × Vec} (cond x (done 0, map float (wordsAt (wordsBytes ws) 0 (length out))) (refused 6 0, out)) (cond x (done 0, map float ws) (refused 6 0, out))
+            → _≡_ {A = Answer × Vec} (cond x (answered 0 (answerOf own) 0 0, map float (wordsAt (wordsBytes ws) 0 (length out))) (refused 6 0, out)) (cond x (answered 0 (answerOf own) 0 0, map float ws) (refused 6 0, out))
         same true f = rw (← eqb-true (length ws) (length out) f, words-of ws b)
         same false f = refl

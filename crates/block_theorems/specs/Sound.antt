@@ -49,6 +49,15 @@ wordsIn kind (refused a) = []
 abbrev pub chosen : List ℕ → List ℕ → ℕ → List ℕ
 chosen own main kind = cond (hasIn kind (reading own)) (wordsIn kind (reading own)) (wordsIn kind (reading main))
 
+-- a block by its number, with rows and columns of what was read; a refused block has none
+abbrev pub shapeIn : ℕ → Text → ℕ × ℕ × ℕ
+shapeIn block (good r c ps) = (block, r, c)
+shapeIn block (refused a) = (0, 0, 0)
+
+-- that of the tile's own content where it has a part of that kind, else of the main block's where that has one, else none
+abbrev pub chosenShape : List ℕ → List ℕ → ℕ → ℕ × ℕ × ℕ
+chosenShape own main kind = cond (hasIn kind (reading own)) (shapeIn 1 (reading own)) (cond (hasIn kind (reading main)) (shapeIn 2 (reading main)) (0, 0, 0))
+
 -- numbers that an f64 holds, as those of every slice are
 abbrev pub Doubles : Vec → Type 0
 Doubles xs = (i : ℕ) → i < length xs → T (fits binary64 (getD xs i nan))

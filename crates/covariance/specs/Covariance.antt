@@ -11,12 +11,15 @@ use Rattle.answers.specs.declared.Answer.{Answer}
 use Rattle.answers.specs.Checks.{lengths}
 use Rattle.covariance.specs.MatrixEntries.{computed}
 
+-- n bands of N samples: refusal 1 or 25, or else `rest`
+abbrev pub bandChecks : ℕ → ℕ → Answer → Answer
+bandChecks n N rest =
+    cond (ltb 256 n) (refused 1 0)
+    (cond (ltb N 1 || ltb 65536 N) (refused 25 0) rest)
+
 -- refusals 1, 25 and 6
 unfoldable pub covChecks : ℕ → ℕ → ℕ → ℕ → Answer
-covChecks n N samples matrix =
-    cond (ltb 256 n) (refused 1 0)
-    (cond (ltb N 1 || ltb 65536 N) (refused 25 0)
-    (lengths samples (n * N) matrix (n * n) 0 0))
+covChecks n N samples matrix = bandChecks n N (lengths samples (n * N) matrix (n * n) 0 0)
 
 -- the answer and the matrix, for every input
 unfoldable pub covariance : ℕ → ℕ → List ℤ → Vec → Answer × Vec

@@ -1,21 +1,24 @@
 // The covariances of n bands of samples, each multiplied by the square of how many samples a band has, worked out exactly in whole numbers.
-mod whole_numbers; // Whole numbers with a sign, exact in 64 bits, and the test against 2^53
-mod sample_sums; // Sums of samples and of products of samples, worked out exactly in whole numbers
+pub mod whole_numbers; // Whole numbers with a sign, exact in 64 bits, and the test against 2^53
+pub mod sample_sums; // Sums of samples and of products of samples, worked out exactly in whole numbers
 mod matrix_entries; // The entries of the covariances (`covariance`), behind the checks: each that of two bands of samples, worked out exactly in whole numbers and stored
 
 ghost use mathlib.Core.Path.{_≡_};
-ghost use Rattle.covariance.specs.Covariance.{covChecks, covariance};
+ghost use Rattle.answers.specs.Answers.{done};
+ghost use Rattle.covariance.specs.Covariance.{bandChecks, covChecks, covariance};
 use crate::matrix_entries::compute;
 use answers::Answer;
 use answers::checks::lengths;
+use answers::done;
 use answers::refused;
 use grid::LARGEST;
 
 // A band has at most so many samples.
 const MOST: usize = 65536;
 
-fn checks(n: usize, count: usize, samples: usize, matrix: usize) -> Answer
-    ensures { λ r. ⌜ r ≡ covChecks n count samples matrix ⌝ }
+// n bands of count samples: refusal 1 or 25, or done.
+pub fn sizes(n: usize, count: usize) -> Answer
+    ensures { λ r. ⌜ r ≡ bandChecks n count (done 0) ⌝ }
 {
     if n > LARGEST {
         return refused(1, 0);
@@ -25,6 +28,16 @@ fn checks(n: usize, count: usize, samples: usize, matrix: usize) -> Answer
     }
     if count > MOST {
         return refused(25, 0);
+    }
+    done(0)
+}
+
+fn checks(n: usize, count: usize, samples: usize, matrix: usize) -> Answer
+    ensures { λ r. ⌜ r ≡ covChecks n count samples matrix ⌝ }
+{
+    let check = sizes(n, count);
+    if check.answer != 0 {
+        return check;
     }
     lengths(samples, n * count, matrix, n * n, 0, 0)
 }

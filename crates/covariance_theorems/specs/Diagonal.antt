@@ -15,7 +15,7 @@ use Rattle.covariance.specs.MatrixEntries.{band, whole}
 use Rattle.covariance.specs.SampleSums.{sampleAt, total, products}
 
 -- one turn more of a loop from 0
-upto-suc : {S : Type 0} (f : ℕ → S → S) (k : ℕ) (s : S) → upto f 0 (suc k) s ≡ f k (upto f 0 k s)
+pub upto-suc : {S : Type 0} (f : ℕ → S → S) (k : ℕ) (s : S) → upto f 0 (suc k) s ≡ f k (upto f 0 k s)
 upto-suc f k s = ap (λ (i : ℕ). upto f 0 i s) (sym (add-one k)) ∙ upto-more f 0 k s (omega arith)
 
 -- ---- of magnitudes: (x 0 + .. + x (N - 1))² ≤ N · (x 0² + .. + x (N - 1)²)

@@ -92,12 +92,12 @@ small-enough : (z : ℤ) → over z ≡ false → natAbs z ≤ 0x20_0000_0000_00
 unfolding over
 small-enough z h = ltb-false 0x20_0000_0000_0000 (natAbs z) h
 
-stands : (z : ℤ) → over z ≡ false → Stands (ofInt binary64 z) z
+pub stands : (z : ℤ) → over z ≡ false → Stands (ofInt binary64 z) z
 unfolding ofInt
 stands (pos m) h = round-whole binary64 false m (small-enough (pos m) h)
 stands (negsuc m) h = round-whole binary64 true (suc m) (small-enough (negsuc m) h)
 
-stands-finite : (x : Float) (z : ℤ) → Stands x z → isFinite x ≡ true
+pub stands-finite : (x : Float) (z : ℤ) → Stands x z → isFinite x ≡ true
 unfolding isFinite
 stands-finite nan (pos m) h = absurd h
 stands-finite nan (negsuc m) h = absurd h

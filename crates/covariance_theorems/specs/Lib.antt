@@ -1,5 +1,7 @@
--- What holds of the exact covariances, cited by no code.
+-- What holds of the exact covariances and sums, cited by no code.
 pub mod ExactEntries
 pub mod ExactEntriesLaws
 pub mod Diagonal
 pub mod OneOutcome
+pub mod ExactSums
+pub mod ExactSumsLaws

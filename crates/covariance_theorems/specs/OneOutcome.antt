@@ -16,12 +16,17 @@ use Rattle.answers.specs.declared.Answer.{Answer}
 use Rattle.answers.specs.Checks.{lengths}
 use Rattle.answers.specs.ChecksLaws.{lengths-index}
 use Rattle.covariance.specs.MatrixEntries.{firstOver, matrixOf, computed}
-use Rattle.covariance.specs.Covariance.{covChecks, covariance}
+use Rattle.covariance.specs.Covariance.{bandChecks, covChecks, covariance}
 use Rattle.covariance_theorems.specs.ExactEntries.{Untouched}
 use Rattle.covariance.specs.ChecksLaws.{numbers}
 
 pub covariance-one : (n N : ℕ) (samples : List ℤ) (m : Vec) (o p : Answer × Vec) → o ≡ covariance n N samples m → p ≡ covariance n N samples m → o ≡ p
 covariance-one n N samples m o p e f = e ∙ sym f
+
+pub bands-index : (n N : ℕ) (x : Answer) → x .index ≡ 0 → bandChecks n N x .index ≡ 0
+bands-index n N x h =
+    let c = cond (ltb N 1 || ltb 65536 N) (refused 25 0) x in
+    refuse-index (ltb 256 n) 1 0 c (refuse-index (ltb N 1 || ltb 65536 N) 25 0 x h)
 
 module _ (n N : ℕ) (samples : List ℤ) where
   computed-same : (x y : Vec) → length x ≡ length y → computed n N samples x ≡ computed n N samples y
@@ -44,10 +49,7 @@ module _ (n N : ℕ) (samples : List ℤ) where
 
   checks-index : (s m : ℕ) → covChecks n N s m .index ≡ 0
   unfolding covChecks
-  checks-index s m =
-      let l = lengths s (n * N) m (n * n) 0 0 in
-      let c = cond (ltb N 1 || ltb 65536 N) (refused 25 0) l in
-      refuse-index (ltb 256 n) 1 0 c (refuse-index (ltb N 1 || ltb 65536 N) 25 0 l (lengths-index s (n * N) m (n * n) 0 0))
+  checks-index s m = bands-index n N (lengths s (n * N) m (n * n) 0 0) (lengths-index s (n * N) m (n * n) 0 0)
 
   pub covariance-index-zero : (m : Vec) → covariance n N samples m .0 .index ≡ 0
   unfolding covariance computed

@@ -5,6 +5,7 @@ ghost use mathlib.Core.Path.{_≡_};
 ghost use Rattle.eigen_symmetric_eigen.specs.SymmetricEigen.{eigen};
 ghost use Rattle.eigen_steps.specs.Steps.{started, stepped, finished};
 ghost use Rattle.lanczos.specs.Lanczos.{lanczos};
+ghost use Rattle.leading.specs.Leading.{leading};
 ghost use Rattle.svd.specs.Svd.{svd};
 ghost use Rattle.svd.specs.VtRow.{rowSpan, extentOf};
 ghost use Rattle.solve.specs.Solve.{solve, pseudoInverse};
@@ -13,6 +14,7 @@ ghost use Rattle.block_read.specs.Held.{shapeOf};
 ghost use Rattle.block_read.specs.Lookup.{found, copied};
 ghost use Rattle.block_write.specs.Writing.{given, doubles, lengthOf, written};
 ghost use Rattle.covariance.specs.Covariance.{covariance};
+ghost use Rattle.covariance_sums.specs.Sums.{sums};
 ghost use Rattle.store_definition.specs.Owners.{setUp2, reset, putFor, lengthFor, fetchFor, dropFor};
 ghost use Rattle.tally_definition.specs.Tallies.{outcome};
 use answers::Answer;
@@ -23,7 +25,7 @@ use svd::vt_row::Extent;
 use tally_definition::Tally;
 
 #[no_mangle]
-pub extern "C" fn crewelmarsh_symmetric_eigen_abi4(
+pub extern "C" fn crewelmarsh_symmetric_eigen_abi5(
     n: usize,
     limit: usize,
     edition: usize,
@@ -39,7 +41,7 @@ pub extern "C" fn crewelmarsh_symmetric_eigen_abi4(
 // ---- the same one pass at a time
 
 #[no_mangle]
-pub extern "C" fn crewelmarsh_eigen_start_abi4(
+pub extern "C" fn crewelmarsh_eigen_start_abi5(
     n: usize,
     limit: usize,
     edition: usize,
@@ -53,7 +55,7 @@ pub extern "C" fn crewelmarsh_eigen_start_abi4(
 }
 
 #[no_mangle]
-pub extern "C" fn crewelmarsh_eigen_step_abi4(
+pub extern "C" fn crewelmarsh_eigen_step_abi5(
     run: EigenRun,
     work: &mut [f64],
     result: &mut [f64],
@@ -64,7 +66,7 @@ pub extern "C" fn crewelmarsh_eigen_step_abi4(
 }
 
 #[no_mangle]
-pub extern "C" fn crewelmarsh_eigen_finish_abi4(
+pub extern "C" fn crewelmarsh_eigen_finish_abi5(
     run: EigenRun,
     work: &mut [f64],
     result: &mut [f64],
@@ -77,7 +79,7 @@ pub extern "C" fn crewelmarsh_eigen_finish_abi4(
 // ---- the leading pairs alone
 
 #[no_mangle]
-pub extern "C" fn crewelmarsh_lanczos_abi4(
+pub extern "C" fn crewelmarsh_lanczos_abi5(
     n: usize,
     k: usize,
     limit: usize,
@@ -92,10 +94,23 @@ pub extern "C" fn crewelmarsh_lanczos_abi4(
     lanczos::lanczos(n, k, limit, edition, matrix, start, work, answer)
 }
 
+// The same layout from an eigen result.
+#[no_mangle]
+pub extern "C" fn crewelmarsh_leading_abi5(
+    n: usize,
+    k: usize,
+    result: &[f64],
+    out: &mut [f64],
+) -> Answer
+    ensures { λ r. ⌜ (r, now (out .exit)) ≡ leading n k (now (result .entry)) (now (out .entry)) ⌝ }
+{
+    leading::leading(n, k, result, out)
+}
+
 // ---- the others
 
 #[no_mangle]
-pub extern "C" fn crewelmarsh_svd_abi4(
+pub extern "C" fn crewelmarsh_svd_abi5(
     m: usize,
     n: usize,
     want_u: usize,
@@ -111,7 +126,7 @@ pub extern "C" fn crewelmarsh_svd_abi4(
 }
 
 #[no_mangle]
-pub extern "C" fn crewelmarsh_vt_row_extent_abi4(
+pub extern "C" fn crewelmarsh_vt_row_extent_abi5(
     m: usize,
     n: usize,
     has_u: usize,
@@ -125,7 +140,7 @@ pub extern "C" fn crewelmarsh_vt_row_extent_abi4(
 }
 
 #[no_mangle]
-pub extern "C" fn crewelmarsh_solve_abi4(
+pub extern "C" fn crewelmarsh_solve_abi5(
     m: usize,
     n: usize,
     has_u: usize,
@@ -150,7 +165,7 @@ pub extern "C" fn crewelmarsh_solve_abi4(
 }
 
 #[no_mangle]
-pub extern "C" fn crewelmarsh_pseudo_inverse_abi4(
+pub extern "C" fn crewelmarsh_pseudo_inverse_abi5(
     m: usize,
     n: usize,
     has_u: usize,
@@ -165,7 +180,7 @@ pub extern "C" fn crewelmarsh_pseudo_inverse_abi4(
 }
 
 #[no_mangle]
-pub extern "C" fn crewelmarsh_qr_q_abi4(
+pub extern "C" fn crewelmarsh_qr_q_abi5(
     m: usize,
     k: usize,
     matrix: &[f64],
@@ -179,21 +194,21 @@ pub extern "C" fn crewelmarsh_qr_q_abi4(
 // ---- transform blocks
 
 #[no_mangle]
-pub extern "C" fn crewelmarsh_block_check_abi4(block: &[u8]) -> Shape
+pub extern "C" fn crewelmarsh_block_check_abi5(block: &[u8]) -> Shape
     ensures { λ r. ⌜ r ≡ shapeOf (now (block .entry)) ⌝ }
 {
     block_read::lookup::shape_of(block)
 }
 
 #[no_mangle]
-pub extern "C" fn crewelmarsh_block_find_abi4(own: &[u8], main_block: &[u8], kind: usize) -> Found
+pub extern "C" fn crewelmarsh_block_find_abi5(own: &[u8], main_block: &[u8], kind: usize) -> Found
     ensures { λ r. ⌜ r ≡ found (now (own .entry)) (now («main_block» .entry)) kind ⌝ }
 {
     block_read::lookup::locate(own, main_block, kind)
 }
 
 #[no_mangle]
-pub extern "C" fn crewelmarsh_block_copy_abi4<'a>(
+pub extern "C" fn crewelmarsh_block_copy_abi5<'a>(
     own: &'a [u8],
     main_block: &'a [u8],
     kind: usize,
@@ -205,7 +220,7 @@ pub extern "C" fn crewelmarsh_block_copy_abi4<'a>(
 }
 
 #[no_mangle]
-pub extern "C" fn crewelmarsh_block_length_abi4(
+pub extern "C" fn crewelmarsh_block_length_abi5(
     rows: usize,
     columns: usize,
     parts: usize,
@@ -219,7 +234,7 @@ pub extern "C" fn crewelmarsh_block_length_abi4(
 }
 
 #[no_mangle]
-pub extern "C" fn crewelmarsh_block_write_abi4(
+pub extern "C" fn crewelmarsh_block_write_abi5(
     rows: usize,
     columns: usize,
     parts: usize,
@@ -248,7 +263,7 @@ pub extern "C" fn crewelmarsh_block_write_abi4(
 }
 
 #[no_mangle]
-pub extern "C" fn crewelmarsh_covariance_abi4(
+pub extern "C" fn crewelmarsh_covariance_abi5(
     n: usize,
     count: usize,
     samples: &[i16],
@@ -259,10 +274,22 @@ pub extern "C" fn crewelmarsh_covariance_abi4(
     covariance::covariance(n, count, samples, matrix)
 }
 
+#[no_mangle]
+pub extern "C" fn crewelmarsh_sums_abi5(
+    n: usize,
+    count: usize,
+    samples: &[i16],
+    out: &mut [f64],
+) -> Answer
+    ensures { λ r. ⌜ (r, now (out .exit)) ≡ sums n count (now (samples .entry)) (now (out .entry)) ⌝ }
+{
+    covariance_sums::sums(n, count, samples, out)
+}
+
 // ---- the store of two owners
 
 #[no_mangle]
-pub extern "C" fn crewelmarsh_store_setup_abi4(
+pub extern "C" fn crewelmarsh_store_setup_abi5(
     quota0: usize,
     quota1: usize,
     list: &mut [usize],
@@ -275,7 +302,7 @@ pub extern "C" fn crewelmarsh_store_setup_abi4(
 }
 
 #[no_mangle]
-pub extern "C" fn crewelmarsh_store_reset_abi4(
+pub extern "C" fn crewelmarsh_store_reset_abi5(
     list: &mut [usize],
     tiles: &[u16],
     bytes: &[u8],
@@ -286,7 +313,7 @@ pub extern "C" fn crewelmarsh_store_reset_abi4(
 }
 
 #[no_mangle]
-pub extern "C" fn crewelmarsh_store_put_abi4(
+pub extern "C" fn crewelmarsh_store_put_abi5(
     owner: usize,
     list: &mut [usize],
     tiles: &mut [u16],
@@ -300,7 +327,7 @@ pub extern "C" fn crewelmarsh_store_put_abi4(
 }
 
 #[no_mangle]
-pub extern "C" fn crewelmarsh_store_length_abi4(
+pub extern "C" fn crewelmarsh_store_length_abi5(
     owner: usize,
     list: &[usize],
     tiles: &[u16],
@@ -313,7 +340,7 @@ pub extern "C" fn crewelmarsh_store_length_abi4(
 }
 
 #[no_mangle]
-pub extern "C" fn crewelmarsh_store_fetch_abi4(
+pub extern "C" fn crewelmarsh_store_fetch_abi5(
     owner: usize,
     list: &[usize],
     tiles: &[u16],
@@ -327,7 +354,7 @@ pub extern "C" fn crewelmarsh_store_fetch_abi4(
 }
 
 #[no_mangle]
-pub extern "C" fn crewelmarsh_store_drop_abi4(
+pub extern "C" fn crewelmarsh_store_drop_abi5(
     owner: usize,
     list: &mut [usize],
     tiles: &mut [u16],
@@ -342,7 +369,7 @@ pub extern "C" fn crewelmarsh_store_drop_abi4(
 // ---- the tally
 
 #[no_mangle]
-pub extern "C" fn crewelmarsh_tally_add_abi4(
+pub extern "C" fn crewelmarsh_tally_add_abi5(
     tally: &mut Tally,
     answer: usize,
     passes: usize,

@@ -7,17 +7,17 @@ use Prim.Native.Nat.{_%_, _*_, _+_, _<_, _^_, ℕ}
 use lib.Dec.{T, eqb, ltb}
 use lib.Ieee.{Float, binary64, fits, isNan, nan}
 use lib.ListN.{drop, length, set, take}
-use Rattle.answers.specs.Answers.{done, refused}
+use Rattle.answers.specs.Answers.{answered, done, refused}
 use Rattle.answers.specs.declared.Answer.{Answer}
 use Rattle.block_read.specs.Content.{Content, Part, Words, blockOf, heads}
 use Rattle.block_read.specs.Reading.{answerOf, good, reading}
 use Rattle.block_theorems.proofs.Worked.{block, block-read, block-written, bytes-over, content, cut-short, inverse-found, lengths-worked, matrix-missing, refusals, writer-order}
 use Rattle.block_theorems.specs.Doubles.{bits-float, doubles-back, doubles-copied, doubles-words, float-bits, nan-read, nan-written}
-use Rattle.block_theorems.specs.FoundLaws.{copied-is, lookup-is, recorded, refused-record, spanned}
+use Rattle.block_theorems.specs.FoundLaws.{copied-is, lookup-is, recorded, refused-own, refused-record, spanned}
 use Rattle.block_theorems.specs.Inverse.{accepts, exactly, one-block, one-content, read-of-written, read-then-written, writes-exactly, written-block, written-of-read}
 use Rattle.block_theorems.specs.OneOutcome.{check-one, copy-one, find-one, length-one, locate-one, read-one, shape-one, write-one}
-use Rattle.block_theorems.specs.PlacedLaws.{found-at, found-part}
-use Rattle.block_theorems.specs.Sound.{Doubles, IsBlock, Numbers, Recorded, Spanned, Wrote, chosen, hasPart, named, partWords}
+use Rattle.block_theorems.specs.PlacedLaws.{found-answers, found-at, found-part, found-shape}
+use Rattle.block_theorems.specs.Sound.{Doubles, IsBlock, Numbers, Recorded, Spanned, Wrote, chosen, chosenShape, hasPart, named, partWords, wordsIn}
 use Rattle.block_write.specs.Writing.{checked, lengthOf, written}
 use Rattle.block_read.specs.Held.{blockRead, noBlock, shapeOf}
 use Rattle.block_read.specs.Lookup.{copied, found, lookup, lookupAt}
@@ -156,7 +156,7 @@ t18-recorded = recorded
 pub t18-refused-record : (t : List ℕ) (a : ℕ) → reading t ≡ reads.refused a → blockRead t ≡ noBlock a
 t18-refused-record = refused-record
 
--- C's three numbers, block, start and count, name the bytes that `find` returns.
+-- C's first three numbers, block, start and count, name the bytes that `find` returns.
 pub t18-found-part : (own main : List ℕ) (kind : ℕ)
     → take (8 * found own main kind .count) (drop (found own main kind .start) (named (found own main kind .block) own main)) ≡ lookup own main kind
 t18-found-part = found-part
@@ -165,6 +165,20 @@ t18-found-part = found-part
 pub t18-found-at : (p q : ℕ × ℕ) (own main : List ℕ) (kind : ℕ)
     → (named (found own main kind .block) p q .0, found own main kind .start + named (found own main kind .block) p q .1) ≡ lookupAt p own q main kind
 t18-found-at = found-at
+
+-- Two more are the reader's answers for both blocks.
+pub t18-found-answers : (own main : List ℕ) (kind : ℕ)
+    → (found own main kind .«own_answer» ≡ answerOf own) × (found own main kind .«main_answer» ≡ answerOf main)
+t18-found-answers = found-answers
+
+-- The block is the tile's own where that has the part, else the main one where that has it, and rows and columns are its content's; else all three are 0.
+pub t18-found-shape : (own main : List ℕ) (kind : ℕ) → Bytes own → Bytes main
+    → (found own main kind .block, found own main kind .rows, found own main kind .columns) ≡ chosenShape own main kind
+t18-found-shape = found-shape
+
+-- Where the tile's own block is refused the numbers found are the main block's, if any.
+pub t18-refused-own : (own main : List ℕ) (kind : ℕ) → (answerOf own ≡ 0 → ⊥) → chosen own main kind ≡ wordsIn kind (reading main)
+t18-refused-own = refused-own
 
 -- The inverse of that small block is found where the tile has no block of its own, computed.
 pub t18-inverse-found : lookup [] block 3 ≡ wordsBytes (0x7ff8_0000_0000_0001 ∷ 0x8000_0000_0000_0000 ∷ [])
@@ -198,12 +212,12 @@ t19-doubles-back = doubles-back
 pub t19-doubles-words : (xs : Vec) → Doubles xs → Words (map bits xs)
 t19-doubles-words = doubles-words
 
--- What was written from doubles in a tile's own part is copied out as it was, with answer 0, where the destination has its length.
+-- What was written from doubles in a tile's own part is copied out as it was, with answer and place 0, where the destination has its length.
 pub t19-doubles-copied : (t main : List ℕ) (r c : ℕ) (ps : List Part) (kind : ℕ) (xs out : Vec) → Bytes t → Bytes main → reading t ≡ good r c ps
     → hasPart kind ps ≡ true → partWords kind ps ≡ map bits xs → Doubles xs → length out ≡ length xs → copied t main kind out ≡ (done 0, xs)
 t19-doubles-copied = doubles-copied
 
--- The copy is the numbers of the chosen part with answer 0 where the destination has their length, else 6 and nothing touched.
+-- The copy is the numbers of the chosen part with answer 0 where the destination has their length, the place the reader's answer for the tile's own block; else 6 and nothing touched.
 pub t19-copied-is : (own main : List ℕ) (kind : ℕ) (out : Vec) → Bytes own → Bytes main
-    → copied own main kind out ≡ cond (eqb (length (chosen own main kind)) (length out)) (done 0, map float (chosen own main kind)) (refused 6 0, out)
+    → copied own main kind out ≡ cond (eqb (length (chosen own main kind)) (length out)) (answered 0 (answerOf own) 0 0, map float (chosen own main kind)) (refused 6 0, out)
 t19-copied-is = copied-is

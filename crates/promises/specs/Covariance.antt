@@ -1,4 +1,4 @@
--- What is proved of `covariance`: o and p are what calls that meet its promise came back with. Laws only.
+-- What is proved of `covariance` and of `sums`: o and p are what calls that meet their promise came back with. Laws only.
 use mathlib.Core.List.{List}
 use mathlib.Core.Logic.{_⊎_}
 use mathlib.Core.Path.{_≡_}
@@ -11,10 +11,13 @@ use Rattle.calls_theorems.specs.Covariance.{covariance-exact-calls, covariance-
 use Rattle.covariance.specs.Covariance.{covariance}
 use Rattle.covariance_theorems.specs.Diagonal.{diagonal-not-negative}
 use Rattle.covariance_theorems.specs.ExactEntries.{Exactly, FirstOver, Untouched}
+use Rattle.covariance_sums.specs.Sums.{sums}
+use Rattle.covariance_theorems.specs.ExactSums.{ExactSum, Sixteen}
+use Rattle.covariance_theorems.specs.ExactSumsLaws.{sums-exact, sums-finite-out, sums-index-zero, sums-old-contents, sums-one}
 use Rattle.covariance_theorems.specs.OneOutcome.{covariance-one}
 use Rattle.eigen_theorems.specs.Outcome.{Outcome, Promised, RunAnswer, Taken}
 use Rattle.grid.specs.Cell.{entry}
-use Rattle.grid.specs.Real.{Vec}
+use Rattle.grid.specs.Real.{Vec, at}
 use Rattle.leaves.specs.Finite.{Finite}
 
 -- Two outcomes that satisfy the promise are one.
@@ -64,3 +67,27 @@ t23-covariance-then-eigen = covariance-then-eigen
 pub t23-covariance-then-ran : (n N : ℕ) (samples : List ℤ) (m : Vec) (o : Answer × Vec) (p : o ≡ covariance n N samples m) (z : o .0 .answer ≡ 0) (limit edition : ℕ) (work result : Vec) (least : 1 ≤ limit) (most : limit ≤ 60) (choice : (edition ≡ 1) ⊎ (edition ≡ 2)) (works : length work ≡ n) (room : length result ≡ n + n * n)
     → (x : Outcome) → Promised n limit edition (o .1) work result x → RunAnswer (x .0)
 t23-covariance-then-ran = covariance-then-ran
+
+-- Two outcomes of `sums` that satisfy the promise are one.
+pub t2-sums-one : (n N : ℕ) (samples : List ℤ) (out : Vec) (o p : Answer × Vec) → o ≡ sums n N samples out → p ≡ sums n N samples out
+    → o ≡ p
+t2-sums-one = sums-one
+
+-- Of samples of 16 bits: on answer 0 every number of `out` is finite.
+pub t11-sums-finite-out : (n N : ℕ) (samples : List ℤ) (out : Vec) (o : Answer × Vec) (p : o ≡ sums n N samples out) (z : o .0 .answer ≡ 0) (s : Sixteen samples)
+    → Finite (o .1)
+t11-sums-finite-out = sums-finite-out
+
+-- Two calls that differ only in what `out` held before have the same outcome, unless it is a refusal that touches nothing.
+pub t14-sums-old-contents : (n N : ℕ) (samples : List ℤ) (x y : Vec) (o p : Answer × Vec) → length x ≡ length y → o ≡ sums n N samples x
+    → p ≡ sums n N samples y → (Untouched (o .0) → ⊥) → o ≡ p
+t14-sums-old-contents = sums-old-contents
+
+-- The index is 0 on every answer.
+pub t15-sums-index-zero : (n N : ℕ) (samples : List ℤ) (out : Vec) (o : Answer × Vec) (p : o ≡ sums n N samples out) → o .0 .index ≡ 0
+t15-sums-index-zero = sums-index-zero
+
+-- Of samples of 16 bits: on answer 0 number x is exactly the sum of the N samples of band x, which is at most 2^31 in magnitude.
+pub t45-sums-exact : (n N : ℕ) (samples : List ℤ) (out : Vec) (o : Answer × Vec) (p : o ≡ sums n N samples out) (z : o .0 .answer ≡ 0) (s : Sixteen samples)
+    → (x : ℕ) → x < n → ExactSum samples N x (at (o .1) x)
+t45-sums-exact = sums-exact

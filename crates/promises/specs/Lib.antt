@@ -17,4 +17,5 @@ pub mod Tiles
 pub mod Text
 pub mod Gain
 pub mod Lanczos
+pub mod Leading
 pub mod Worked

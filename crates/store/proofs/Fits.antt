@@ -1,16 +1,17 @@
 -- An owner's parts lie in the arrays where nothing is barred, and what a store's call on them leaves. Lemmas.
-use mathlib.Core.Path.{_≡_, sym, ap, _∙_}
+use mathlib.Core.Path.{_≡_, refl, sym, ap, _∙_}
+use mathlib.Core.Bool.{true}
 use mathlib.Core.List.{List}
 use Prim.Native.Nat.{ℕ, _+_, _-_, _≤_}
 use native.Mathlib.Omega.{arith}
 use lib.ListN.{length}
 use Rattle.store_definition.specs.Store.{Outcome}
-use Rattle.store_definition.specs.Owners.{part, patched, quotaOf, startFor, barred}
-use Rattle.store_definition.specs.LaidLaws.{admitted, start-least, bounded, minus-is}
+use Rattle.store_definition.specs.Owners.{part, patched, quotaOf, startFor, laid, barred}
+use Rattle.store_definition.specs.LaidLaws.{laid-facts, admitted, not-barred, start-least, bounded, minus-is}
 
 pub record Fits (owner : ℕ) (list tiles bytes : List ℕ) : Type 0 where
   pub one : owner ≤ 1
-  pub lists : length list ≡ 69
+  pub lists : length list ≡ 70
   pub tiled : length tiles ≡ 64
   pub starts : startFor owner list ≤ 65536
   pub room : startFor owner list + quotaOf owner list ≤ length bytes
@@ -24,9 +25,13 @@ fits owner list tiles bytes b e z =
       one = f .0;
       lists = f .1 .lists;
       tiled = f .1 .tiled;
-      starts = omega (arith, s, f .1 .fitting, f .1 .small);
-      room = omega (arith, q, f .1 .fitting, f .1 .whole);
+      starts = omega (arith, s, f .1 .adding, f .1 .small);
+      room = omega (arith, q, f .1 .adding, f .1 .whole);
     }
+
+-- the same where the owner is one of the two and the arrays are laid
+pub fits-laid : (owner : ℕ) (list tiles bytes : List ℕ) → owner ≤ 1 → laid list tiles bytes ≡ true → Fits owner list tiles bytes
+fits-laid owner list tiles bytes h e = fits owner list tiles bytes 0 (sym (not-barred list tiles bytes owner h (laid-facts list tiles bytes e))) refl
 
 -- of a store's call f: from the parts with their lengths as the code has them to the owner's own
 module _ {X : Type 0} (f : List ℕ → List ℕ → List ℕ → X) (list tiles bytes : List ℕ) (a b at n : ℕ) where

@@ -1,35 +1,35 @@
 -- What is known of arrays that a set-up of two owners left, and of an owner's parts of them. Laws only.
 use mathlib.Core.Path.{_≡_, refl, sym, _∙_}
-use mathlib.Core.Bool.{Bool, true, false, cond, not}
+use mathlib.Core.Bool.{Bool, true, false, cond, not, _&&_}
 use mathlib.Core.List.{List}
 use Prim.Native.Nat.{ℕ, zero, suc, _+_, _-_, _≤_, _<_}
 use native.Mathlib.Omega.{arith}
-use borrow.Author.Tests.{leb-true, leb-false, eqb-true, le-leb, lt-leb, eq-eqb}
+use borrow.Author.Tests.{leb-true, eqb-true, eqb-false, le-leb, lt-leb, eq-eqb, ne-eqb}
 use lib.Dec.{leb, eqb}
 use lib.ListN.{length}
 use Rattle.grid.specs.LoopLaws.{both}
 use Rattle.store_definition.specs.Store.{roomOf}
-use Rattle.store_definition.specs.Owners.{quotaOf, startFor, listed2, laid, barred}
+use Rattle.store_definition.specs.Owners.{quotaOf, startFor, leftOver, listed2, laid, barred, soundFor, soundBoth}
 
 pub record Laid (list tiles bytes : List ℕ) : Type 0 where
-  pub lists : length list ≡ 69
+  pub lists : length list ≡ 70
   pub tiled : length tiles ≡ 64
   pub small : roomOf list ≤ 65536
   pub whole : length bytes ≡ roomOf list
-  pub fitting : quotaOf 0 list + quotaOf 1 list ≤ roomOf list
+  pub adding : quotaOf 0 list + quotaOf 1 list + leftOver list ≡ roomOf list
 
 module _ (list tiles : List ℕ) (e : listed2 list tiles ≡ true) where
-  pub listed2-lists : length list ≡ 69
-  listed2-lists = eqb-true (length list) 69 (both (eqb (length list) 69) (eqb (length tiles) 64) e .0)
+  pub listed2-lists : length list ≡ 70
+  listed2-lists = eqb-true (length list) 70 (both (eqb (length list) 70) (eqb (length tiles) 64) e .0)
 
   pub listed2-tiled : length tiles ≡ 64
-  listed2-tiled = eqb-true (length tiles) 64 (both (eqb (length list) 69) (eqb (length tiles) 64) e .1)
+  listed2-tiled = eqb-true (length tiles) 64 (both (eqb (length list) 70) (eqb (length tiles) 64) e .1)
 
 module _ (list tiles bytes : List ℕ) where
   pub laid-facts : laid list tiles bytes ≡ true → Laid list tiles bytes
   unfolding laid
   laid-facts e =
-      let d = both _ (leb (quotaOf 0 list + quotaOf 1 list) (roomOf list)) e in
+      let d = both _ (eqb (quotaOf 0 list + quotaOf 1 list + leftOver list) (roomOf list)) e in
       let b = both _ (eqb (length bytes) (roomOf list)) (d .0) in
       let a = both _ (leb (roomOf list) 65536) (b .0) in
       record {
@@ -37,18 +37,22 @@ module _ (list tiles bytes : List ℕ) where
         tiled = listed2-tiled list tiles (a .0);
         small = leb-true (roomOf list) 65536 (a .1);
         whole = eqb-true (length bytes) (roomOf list) (b .1);
-        fitting = leb-true (quotaOf 0 list + quotaOf 1 list) (roomOf list) (d .1);
+        adding = eqb-true (quotaOf 0 list + quotaOf 1 list + leftOver list) (roomOf list) (d .1);
       }
 
   pub facts-laid : Laid list tiles bytes → laid list tiles bytes ≡ true
   unfolding laid
   facts-laid f =
       rw (
-        eq-eqb (length list) 69 (f .lists),
+        eq-eqb (length list) 70 (f .lists),
         eq-eqb (length tiles) 64 (f .tiled),
         le-leb (roomOf list) 65536 (f .small),
         eq-eqb (length bytes) (roomOf list) (f .whole),
-      ) (le-leb (quotaOf 0 list + quotaOf 1 list) (roomOf list) (f .fitting))
+      ) (eq-eqb (quotaOf 0 list + quotaOf 1 list + leftOver list) (roomOf list) (f .adding))
+
+  pub both-laid : soundBoth list tiles bytes ≡ true → laid list tiles bytes ≡ true
+  unfolding soundBoth
+  both-laid e = both (laid list tiles bytes) (soundFor 0 list tiles bytes) (both (laid list tiles bytes && soundFor 0 list tiles bytes) (soundFor 1 list tiles bytes) e .0) .0
 
   -- 34 comes first of all
   pub nobody : (owner : ℕ) → 1 < owner → barred owner list tiles bytes ≡ 34
@@ -84,10 +88,10 @@ bounded (suc (suc owner)) list h = absurd (omega arith)
 pub minus-is : (a n : ℕ) → a + n - a ≡ n
 minus-is a n = omega arith
 
--- the code's test for the quotas
-pub leb-minus : (b room a : ℕ) → a ≤ room → leb b (room - a) ≡ leb (a + b) room
-leb-minus b room a h = go (leb (a + b) room) refl
+-- the code's test for what is left over
+pub eqb-minus : (c room a b : ℕ) → a ≤ room → b ≤ room - a → eqb c (room - a - b) ≡ eqb (a + b + c) room
+eqb-minus c room a b h k = go (eqb (a + b + c) room) refl
   where
-    go : (x : Bool) → leb (a + b) room ≡ x → leb b (room - a) ≡ leb (a + b) room
-    go true e = le-leb b (room - a) (omega (arith, leb-true (a + b) room e)) ∙ sym e
-    go false e = lt-leb b (room - a) (omega (arith, leb-false (a + b) room e)) ∙ sym e
+    go : (x : Bool) → eqb (a + b + c) room ≡ x → eqb c (room - a - b) ≡ eqb (a + b + c) room
+    go true e = eq-eqb c (room - a - b) (omega (arith, eqb-true (a + b + c) room e)) ∙ sym e
+    go false e = ne-eqb c (room - a - b) (λ x. eqb-false (a + b + c) room e (omega (arith, x))) ∙ sym e

@@ -16,3 +16,4 @@ pub mod PartLaws
 pub mod OwnersApart
 pub mod Nobody
 pub mod OwnersOneOutcome
+pub mod Damaged

@@ -1,16 +1,17 @@
 -- Two owners over one store: what each call does, for every input. Definitions only.
 --
 -- `list` has the room, and behind it for each owner, 0 and 1, 34 numbers, which are the list of a store with 32 entries: its quota, how many blocks it holds,
--- 32 lengths. Of `tiles` the first 32 are owner 0's, the others owner 1's; of the buffer the first bytes, as many as its quota, are owner 0's, and those behind them, as many as its
--- quota, owner 1's. An owner's call is the store's own call on these three parts. The room and the quotas are the set-up's, and no call changes them.
+-- 32 lengths; and last what room and quotas leave over. Of `tiles` the first 32 are owner 0's, the others owner 1's; of the buffer the first bytes, as many as its quota, are owner 0's,
+-- and those behind them, as many as its quota, owner 1's. An owner's call is the store's own call on these three parts. The room, the quotas and what they leave over are the set-up's,
+-- and no call changes them: two quotas and what is left over add up to the room, so that none of the four can be another one alone.
 use mathlib.Core.Bool.{Bool, cond, not, _&&_}
 use mathlib.Core.List.{List, _++_}
-use Prim.Native.Nat.{ℕ, _+_, _*_}
+use Prim.Native.Nat.{ℕ, _+_, _-_, _*_}
 use lib.Dec.{ltb, leb, eqb}
 use lib.ListN.{length, take, drop, getD, set}
 use Rattle.answers.specs.declared.Answer.{Answer}
 use Rattle.answers.specs.Answers.{done, refused}
-use Rattle.store_definition.specs.Store.{roomOf, Outcome, kept, putOf, lengthHeld, fetchOf, dropOf}
+use Rattle.store_definition.specs.Store.{roomOf, sound, Outcome, kept, putOf, lengthHeld, fetchOf, dropOf}
 
 -- the n elements from a on, and a list with others in their place
 abbrev pub part : List ℕ → ℕ → ℕ → List ℕ
@@ -28,17 +29,21 @@ quotaOf owner list = getD list (1 + owner * 34) 0
 abbrev pub startFor : ℕ → List ℕ → ℕ
 startFor owner list = owner * quotaOf 0 list
 
+-- what room and quotas leave over
+abbrev pub leftOver : List ℕ → ℕ
+leftOver list = getD list 69 0
+
 -- the arrays are of the lengths that a set-up takes
 abbrev pub listed2 : List ℕ → List ℕ → Bool
-listed2 list tiles = eqb (length list) 69 && eqb (length tiles) 64
+listed2 list tiles = eqb (length list) 70 && eqb (length tiles) 64
 
--- the arrays, the room and the quotas are such as a set-up leaves; what else the owners' lists have in them is not looked at
+-- the lengths, the room, the quotas and what they leave over are such as a set-up leaves; what else the owners' lists have in them is not looked at
 unfoldable pub laid : List ℕ → List ℕ → List ℕ → Bool
 laid list tiles bytes =
     listed2 list tiles
     && leb (roomOf list) 65536
     && eqb (length bytes) (roomOf list)
-    && leb (quotaOf 0 list + quotaOf 1 list) (roomOf list)
+    && eqb (quotaOf 0 list + quotaOf 1 list + leftOver list) (roomOf list)
 
 -- what is refused before an owner's part is looked at: 34, then 39; else 0
 unfoldable pub barred : ℕ → List ℕ → List ℕ → List ℕ → ℕ
@@ -51,11 +56,7 @@ module _ (list tiles bytes : List ℕ) where
       cond (ltb 65536 (length bytes)) (refused 37 0, list)
       (cond (ltb (length bytes) (quota0 + quota1)) (refused 35 0, list)
       (cond (not (listed2 list tiles)) (refused 39 0, list)
-      (done 0, set (set (set (set (set list 0 (length bytes)) 1 quota0) 2 0) 35 quota1) 36 0)))
-
-  -- both stores empty again, also where an owner's list is damaged
-  unfoldable pub reset : Answer × List ℕ
-  reset = cond (not (laid list tiles bytes)) (refused 39 0, list) (done 0, set (set list 2 0) 36 0)
+      (done 0, set (set (set (set (set (set list 0 (length bytes)) 1 quota0) 2 0) 35 quota1) 36 0) 69 (length bytes - quota0 - quota1))))
 
 module _ (owner : ℕ) (list tiles bytes : List ℕ) where
   -- the owner's part of list
@@ -69,6 +70,10 @@ module _ (owner : ℕ) (list tiles bytes : List ℕ) where
   -- the owner's part of the buffer
   abbrev pub ownBytes : List ℕ
   ownBytes = part bytes (startFor owner list) (quotaOf owner list)
+
+  -- what each of its calls asks of its own store
+  abbrev pub soundFor : Bool
+  soundFor = sound 32 ownList ownTiles ownBytes
 
   -- an outcome of the owner's store, put back
   abbrev pub back : Outcome → Outcome
@@ -106,3 +111,12 @@ module _ (owner : ℕ) (list tiles bytes : List ℕ) where
       cond (eqb (barred owner list tiles bytes) 0)
       (back (dropOf 32 ownList ownTiles ownBytes t))
       (kept list tiles bytes (barred owner list tiles bytes))
+
+module _ (list tiles bytes : List ℕ) where
+  -- the arrays are such as a set-up and calls leave: both owners' lists are looked at
+  unfoldable pub soundBoth : Bool
+  soundBoth = laid list tiles bytes && soundFor 0 list tiles bytes && soundFor 1 list tiles bytes
+
+  -- both stores empty again; where either owner's list is damaged a set-up must come first
+  unfoldable pub reset : Answer × List ℕ
+  reset = cond (not soundBoth) (refused 39 0, list) (done 0, set (set list 2 0) 36 0)

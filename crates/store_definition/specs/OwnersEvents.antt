@@ -1,5 +1,5 @@
 -- Sequences of both owners' calls and of resets, and an owner's share of them. Definitions only.
-use mathlib.Core.Bool.{cond}
+use mathlib.Core.Bool.{Bool, true, false, cond}
 use mathlib.Core.List.{List, [], _∷_}
 use Prim.Native.Nat.{ℕ}
 use lib.Dec.{eqb}
@@ -33,6 +33,12 @@ resetBoth w =
 abbrev pub twoStep : Event2 → Arrays → Seen × Arrays
 twoStep (By owner c) w = callFor owner c w
 twoStep ResetBoth w = resetBoth w
+
+-- whether a reset is among them
+unfoldable pub resets : List Event2 → Bool
+resets [] = false
+resets (By p c ∷ es) = resets es
+resets (ResetBoth ∷ es) = true
 
 -- an owner's own calls and the resets, and of what is seen that which is seen of those
 unfoldable pub ownEvents : ℕ → List Event2 → List Event

@@ -423,6 +423,18 @@ module _ (entries : ℕ) (list tiles bytes : List ℕ) (small : length bytes ≤
   empty-within : Within entries (length bytes) emptied []
   empty-within = record { lens = drop 2 list; lists = ap (λ (x : Answer × List ℕ). x .1) set-up-is; holds = nothing }
 
+-- ---- a store that holds a map is sound
+
+within-sound : (entries room : ℕ) (s : Arrays) (m : Map) → Within entries room s m → sound entries (s .list) (s .tiles) (s .bytes) ≡ true
+within-sound entries room s m r =
+    subst (λ (l : List ℕ). sound entries l (s .tiles) (s .bytes) ≡ true) (sym (r .lists)) (is-sound entries room (s .tiles) (r .lens) (s .bytes) m (r .holds))
+
+-- and so is one that a set-up leaves
+pub emptied-sound : (entries : ℕ) (list tiles bytes : List ℕ) (small : length bytes ≤ 65536) (e : listed entries list tiles ≡ true)
+    → sound entries (setUp entries list tiles bytes .1) tiles bytes ≡ true
+emptied-sound entries list tiles bytes small e =
+    within-sound entries (length bytes) (emptied entries list tiles bytes small e) [] (empty-within entries list tiles bytes small e)
+
 -- ---- two machines that go in step see the same
 
 module _ {C S T : Type 0} (f : C → S → Seen × S) (g : C → T → Seen × T) (R : S → T → Type 0)
@@ -577,3 +589,12 @@ module _ (entries : ℕ) (s : Arrays) (e : sound entries (s .list) (s .tiles) (s
   commutes c =
       let p = call-step entries (roomOf (s .list)) c s (mapOf s) shows in
       (p .0, map-within entries (roomOf (s .list)) (storeCall entries c s .1) (mapCall entries (roomOf (s .list)) c (mapOf s) .1) (p .1))
+
+  -- ---- and leaves a sound store
+
+  pub call-sound : (c : Call)
+      → sound entries (storeCall entries c s .1 .list) (storeCall entries c s .1 .tiles) (storeCall entries c s .1 .bytes) ≡ true
+  unfolding Matches
+  call-sound c =
+      within-sound entries (roomOf (s .list)) (storeCall entries c s .1) (mapCall entries (roomOf (s .list)) c (mapOf s) .1)
+      (call-step entries (roomOf (s .list)) c s (mapOf s) shows .1)

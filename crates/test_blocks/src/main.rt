@@ -1,7 +1,8 @@
 // Runs the stored cases of standard input through the reader, the lookup and the writer of transform blocks, and writes what they give. Numbers come in
 // four bytes, the highest first, and go out in eight. The first is how many cases there are. A case is
 //   1, length, the block                                                    the nine numbers of the reader's record
-//   2, kind, length, length, the own block, the main block                  which block, start, count; the part's length and the part
+//   2, kind, length, length, the own block, the main block                  which block, start, count, rows, columns, the answer for each block; the
+//                                                                           part's length and the part
 //   3, rows, columns, count, three kinds                                    the block's length
 //   4, rows, columns, count, three parts (kind, length, numbers of eight    the answer and the destination, which holds 238 before
 //      bytes each), the destination's length
@@ -102,6 +103,10 @@ fn found<'a>(own: &'a [u8], main: &'a [u8], kind: usize) {
     show(f.block);
     show(f.start);
     show(f.count);
+    show(f.rows);
+    show(f.columns);
+    show(f.own_answer);
+    show(f.main_answer);
     let r = block_read::lookup::find(own, main, kind);
     show(r.len());
     io::write_all(1, r);

@@ -3,57 +3,36 @@
 use mathlib.Core.Path.{_∙_}
 use native.Mathlib.Omega.{arith}
 use borrow.Author.Needs.{needs}
-use borrow.Author.Tests.{lt-ltb, le-ltb}
 use Rattle.covariance.specs.Covariance.{covChecks}
+use Rattle.covariance.specs.ChecksLaws.{Bands, bands-refused, bands-good, bands-rest}
 use Rattle.covariance.specs.BandParts.{room}
+use native.Mathlib.Nat.{le-trans}
+use Rattle.answers.specs.Checks.{lengths}
+use Prim.Native.Nat.{_*_}
 use Rattle.covariance.proofs.checks.Statement.{statement}
 use Rattle.covariance.proofs.checks.Tie as tie
 
-refused-requires : tie.Need-refused-requires
-refused-requires c κs = search needs
+sizes-requires : tie.Need-sizes-requires
+sizes-requires c κs = search needs
 
 returns : tie.Need-returns
 unfolding covChecks
-returns c = c .refused .ensures ∙ rw (lt-ltb 256 _ (c .before .if1 .taken))
-
-refused-requires-2 : tie.Need-refused-requires-2
-refused-requires-2 c κs = search needs
-
-returns-2 : tie.Need-returns-2
-unfolding covChecks
-returns-2 c = c .refused2 .ensures ∙ rw (le-ltb 256 _ (c .before .before .if1 .left), lt-ltb _ 1 (c .before .if2 .taken))
-
-refused-requires-3 : tie.Need-refused-requires-3
-refused-requires-3 c κs = search needs
-
-returns-3 : tie.Need-returns-3
-unfolding covChecks
-returns-3 c = c .refused3 .ensures ∙ rw (le-ltb 256 _ (c .before .before .before .if1 .left), le-ltb _ 1 (c .before .before .if2 .left), lt-ltb 65536 _ (c .before .if3 .taken))
+returns c = bands-refused (c .before .before .before .args .n) (c .before .before .before .args .count) (c .before .before .sizes .ensures) (lengths (c .before .before .before .args .samples) (c .before .before .before .args .n * c .before .before .before .args .count) (c .before .before .before .args .matrix) (c .before .before .before .args .n * c .before .before .before .args .n) 0 0) (c .if1 .taken)
 
 mul-lengths : tie.Need-mul-lengths
-mul-lengths c = omega (arith, room (c .before .before .before .args .n) (c .before .before .before .args .count) (omega arith) (omega arith))
+mul-lengths c = let b = bands-good (c .before .before .before .args .n) (c .before .before .before .args .count) (c .before .before .sizes .ensures) (c .if1 .left) in omega (arith, room (c .before .before .before .args .n) (c .before .before .before .args .count) (b .bands) (b .most))
 
 mul-lengths-2 : tie.Need-mul-lengths-2
-mul-lengths-2 c = omega (arith, room (c .before .before .before .args .n) (c .before .before .before .args .n) (omega arith) (omega arith))
+mul-lengths-2 c = let b = bands-good (c .before .before .before .args .n) (c .before .before .before .args .count) (c .before .before .sizes .ensures) (c .if1 .left) in omega (arith, room (c .before .before .before .args .n) (c .before .before .before .args .n) (b .bands) (le-trans (b .bands) (omega arith)))
 
 lengths-requires : tie.Need-lengths-requires
 lengths-requires c κs = search needs
 
-returns-4 : tie.Need-returns-4
+returns-2 : tie.Need-returns-2
 unfolding covChecks
-returns-4 c = c .lengths .ensures ∙ rw (le-ltb 256 _ (c .before .before .before .if1 .left), le-ltb _ 1 (c .before .before .if2 .left), le-ltb 65536 _ (c .before .if3 .left))
+returns-2 c = c .lengths .ensures ∙ bands-rest (c .before .before .before .before .args .n) (c .before .before .before .before .args .count) (c .before .before .before .sizes .ensures) _ (c .before .if1 .left)
 
 pub checks-spec : {M : Type 1} → statement M
 checks-spec =
     tie.close
-    (tie.spec
-    refused-requires
-    returns
-    refused-requires-2
-    returns-2
-    refused-requires-3
-    returns-3
-    mul-lengths
-    mul-lengths-2
-    lengths-requires
-    returns-4)
+    (tie.spec sizes-requires returns mul-lengths mul-lengths-2 lengths-requires returns-2)

@@ -15,16 +15,16 @@ returns c = rw (ne-eqb _ _ (c .before .if1 .taken), c .refused .ensures)
 floats-requires : tie.Need-floats-requires
 floats-requires c κs = omega (arith, c .before .if1 .left)
 
-done-requires : tie.Need-done-requires
-done-requires c κs = search needs
+answered-requires : tie.Need-answered-requires
+answered-requires c κs = search needs
 
 same-length : tie.Need-same-length
 same-length c = search needs
 
 returns-2 : tie.Need-returns-2
-returns-2 c = rw (eq-eqb _ _ (c .before .before .before .before .before .if1 .left), c .before .before .before .floats .ensures, c .done .ensures)
+returns-2 c = rw (eq-eqb _ _ (c .before .before .before .before .before .if1 .left), c .before .before .before .floats .ensures, c .answered .ensures)
 
 pub copy-part-spec : {M : Type 1} → statement M
 copy-part-spec =
     tie.close
-    (tie.spec refused-requires returns floats-requires done-requires same-length returns-2)
+    (tie.spec refused-requires returns floats-requires answered-requires same-length returns-2)

@@ -62,6 +62,12 @@ slice-write-list-4 c = simp length-set (omega (arith, listed2-lists (now (c .bef
 slice-write-list-5 : tie.Need-slice-write-list-5
 slice-write-list-5 c = simp length-set (omega (arith, listed2-lists (now (c .before .before .before .before .before .before .before .before .before .args .list)) (now (c .before .before .before .before .before .before .before .before .before .args .tiles)) (sym (c .before .is-listed .ensures) ∙ not-false (c .before .is-listed .result) (c .if4 .left))))
 
+sub-list : tie.Need-sub-list
+sub-list c = search needs
+
+slice-write-list-6 : tie.Need-slice-write-list-6
+slice-write-list-6 c = simp length-set (omega (arith, listed2-lists (now (c .before .before .before .before .before .before .before .before .before .args .list)) (now (c .before .before .before .before .before .before .before .before .before .args .tiles)) (sym (c .before .is-listed .ensures) ∙ not-false (c .before .is-listed .result) (c .if4 .left))))
+
 done-requires : tie.Need-done-requires
 done-requires c κs = search needs
 
@@ -91,6 +97,8 @@ set-up-spec =
     slice-write-list-3
     slice-write-list-4
     slice-write-list-5
+    sub-list
+    slice-write-list-6
     done-requires
     same-length-2
     returns-5)

@@ -1,4 +1,4 @@
--- `crewelmarsh::crewelmarsh_tally_add_abi4` meets its contract: a walk of its MIR, by hand, since no other proof is made of a struct behind a reference. The borrow is opened, the record is copied out and handed to `added`, the tally of what `added` returned is stored, and the borrow is closed at it.
+-- `crewelmarsh::crewelmarsh_tally_add_abi5` meets its contract: a walk of its MIR, by hand, since no other proof is made of a struct behind a reference. The borrow is opened, the record is copied out and handed to `added`, the tally of what `added` returned is stored, and the borrow is closed at it.
 -- All that the proof knows of `added` is that it meets its contract.
 -- Assumes nothing.
 use mathlib.Core.Path.{_≡_, refl, ap}
@@ -50,10 +50,10 @@ use Rattle.tally.proofs.added as added
 use Rattle.tally.proofs.added.Symbol as added-def
 use Rattle.tally.proofs.added.Symbol.{name as #tally·added}
 use Rattle.tally.proofs.added.Met as added-thm
-use Rattle.crewelmarsh.proofs.crewelmarsh_tally_add_abi4.Key.{name as #crewelmarsh·tally-add}
-use Rattle.crewelmarsh.proofs.crewelmarsh_tally_add_abi4 as f
-use Rattle.crewelmarsh.proofs.crewelmarsh_tally_add_abi4.Statement as stated
-use Rattle.crewelmarsh.proofs.crewelmarsh_tally_add_abi4.Code as code
+use Rattle.crewelmarsh.proofs.crewelmarsh_tally_add_abi5.Key.{name as #crewelmarsh·tally-add}
+use Rattle.crewelmarsh.proofs.crewelmarsh_tally_add_abi5 as f
+use Rattle.crewelmarsh.proofs.crewelmarsh_tally_add_abi5.Statement as stated
+use Rattle.crewelmarsh.proofs.crewelmarsh_tally_add_abi5.Code as code
 
 abbrev Arg : Type 0
 Arg = RefT Tally × (ℕ × (ℕ × Unit {0}))
@@ -167,9 +167,9 @@ tally-add-meets 𝓤 H A W at-mem run 𝓣 known =
     (goes-ref 𝓤 H A W 1 0 tt (plain (λ _. T.the-row)), (goes-none 𝓤 H A W 1 (λ _. usize) yes (λ κs x f. refl), (goes-none 𝓤 H A W 1 (λ _. usize) yes (λ κs x f. refl), tt))) (f.clauses 𝓤 H A at-mem run)
     (WpFn 𝓤 H (𝓣 .C) (𝓣 .Λ) code.function) (WpFn-mono 𝓤 H (W .laws) 𝓣 code.function) (tally-add-walks 𝓤 H A W at-mem run (𝓣 .C) (𝓣 .Λ) (fmOf 𝓤 H (W .laws) 𝓣) known)
 
-pub crewelmarsh-tally-add-abi4-spec : {M : Type 1} → stated.statement M
+pub crewelmarsh-tally-add-abi5-spec : {M : Type 1} → stated.statement M
 unfolding code.routine tablesOf
-crewelmarsh-tally-add-abi4-spec 𝓤 H 𝓜 𝓖 𝓡 =
+crewelmarsh-tally-add-abi5-spec 𝓤 H 𝓜 𝓖 𝓡 =
     entered 𝓤 H (tripleOf 𝓤 H (𝓖 .A) f.signature (f.spec 𝓤 H (𝓖 .A) (𝓜 .mem) (𝓡 .run)))
     (tables 𝓤 H 𝓜 𝓡 code.env .C) (tables 𝓤 H 𝓜 𝓡 code.env .Λ) #crewelmarsh·tally-add code.function (code.unfolded 𝓤 H 𝓜 𝓡)
     (tally-add-meets 𝓤 H (𝓖 .A) (givenOf 𝓤 H 𝓜 𝓖) (𝓜 .mem) (𝓡 .run) (tablesOf 𝓤 H 𝓜 (tables 𝓤 H 𝓜 𝓡 code.env))

@@ -1,0 +1,4 @@
+-- What `leading` comes back with.
+pub mod Leading
+pub mod ChecksLaws
+pub mod Result
