@@ -146,7 +146,9 @@
  * magnitude, and no product or quotient of nonzero numbers comes out zero, then all four numbers of the answer
  * agree; on 0 U and V^T are the same bits and each value is multiplied by 2^k; on any other answer both results are
  * all +0.0, or both untouched. This is proved (T33). Numbers from 2^-250 to 2^250 mostly stay in that range; a call
- * doesn't say whether they did. Of symmetric_eigen the same was tried and not proved.
+ * doesn't say whether they did. On a codec's own path, from samples to vectors, it is proved of covariance (samples
+ * times 2^k give entries times 4^k: T42); of symmetric_eigen each of its halves is proved, tred2 and tql2 (T47), and
+ * the whole tried.
  *
  * WHICH BITS
  *

@@ -55,7 +55,7 @@ seek-at p a (suc m) l = go (p a) refl (λ i. seek-at p (a + 1) m i)
     go false e ih = let l′ : seek p (a + 1) m < a + suc m = rw e at l in rw e (ih (omega arith))
 
 module _ (n N : ℕ) (samples : List ℤ) where
-  before-first : (k : ℕ) → k < firstOver n N samples → over (cellAt n N samples k) ≡ false
+  pub before-first : (k : ℕ) → k < firstOver n N samples → over (cellAt n N samples k) ≡ false
   unfolding firstOver first
   before-first k g = seek-before (λ k. over (cellAt n N samples k)) 0 (n * n - 0) k (omega arith) g
 
@@ -88,7 +88,7 @@ module _ (n N : ℕ) (samples : List ℤ) where
   entry-is x y h g =
       at-table (λ k. ofInt binary64 (cellAt n N samples k)) (n * n) (x * n + y) (cell n n x y h g) ∙ ap (ofInt binary64) (cell-is n N samples x y g)
 
-small-enough : (z : ℤ) → over z ≡ false → natAbs z ≤ 0x20_0000_0000_0000
+pub small-enough : (z : ℤ) → over z ≡ false → natAbs z ≤ 0x20_0000_0000_0000
 unfolding over
 small-enough z h = ltb-false 0x20_0000_0000_0000 (natAbs z) h
 

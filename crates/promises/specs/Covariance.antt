@@ -2,8 +2,8 @@
 use mathlib.Core.List.{List}
 use mathlib.Core.Logic.{_⊎_}
 use mathlib.Core.Path.{_≡_}
-use Prim.Native.Nat.{_*_, _+_, _<_, _≤_, ℕ}
-use lib.IntN.{pos, ℤ}
+use Prim.Native.Nat.{_*_, _+_, _<_, _^_, _≤_, ℕ}
+use lib.IntN.{_*ℤ_, pos, ℤ}
 use lib.ListN.{length}
 use Rattle.answers.specs.declared.Answer.{Answer}
 use Rattle.covariance.specs.MatrixEntries.{whole}
@@ -16,6 +16,8 @@ use Rattle.covariance_theorems.specs.ExactSums.{ExactSum, Sixteen}
 use Rattle.covariance_theorems.specs.ExactSumsLaws.{sums-exact, sums-finite-out, sums-index-zero, sums-old-contents, sums-one}
 use Rattle.covariance_theorems.specs.OneOutcome.{covariance-one}
 use Rattle.eigen_theorems.specs.Outcome.{Outcome, Promised, RunAnswer, Taken}
+use Rattle.gain_path_theorems.specs.CovarianceGain.{covariance-gain, covariance-gain-whole}
+use Rattle.gain_path_theorems.specs.CovarianceGained.{CovarianceGained, louder}
 use Rattle.grid.specs.Cell.{entry}
 use Rattle.grid.specs.Real.{Vec, at}
 use Rattle.leaves.specs.Finite.{Finite}
@@ -91,3 +93,12 @@ t15-sums-index-zero = sums-index-zero
 pub t45-sums-exact : (n N : ℕ) (samples : List ℤ) (out : Vec) (o : Answer × Vec) (p : o ≡ sums n N samples out) (z : o .0 .answer ≡ 0) (s : Sixteen samples)
     → (x : ℕ) → x < n → ExactSum samples N x (at (o .1) x)
 t45-sums-exact = sums-exact
+
+-- Of samples times 2^k each whole number N·Σxy - (Σx)(Σy) is 4^k times that of the samples, exactly.
+pub t42-covariance-gain-whole : (k : ℕ) (samples : List ℤ) (N x y : ℕ) → whole (louder k samples) N x y ≡ pos (4 ^ k) *ℤ whole samples N x y
+t42-covariance-gain-whole = covariance-gain-whole
+
+-- Two calls, of samples and of 2^k times them: where the second is done so is the first, and each number is multiplied by 4^k; 26 of the first is 26 of the second, no later; 1, 25 and 6 agree.
+pub t42-covariance-gain : (k n N : ℕ) (samples : List ℤ) (m m' : Vec) (x y : Answer × Vec) → length m' ≡ length m → x ≡ covariance n N samples m
+    → y ≡ covariance n N (louder k samples) m' → CovarianceGained k x y
+t42-covariance-gain = covariance-gain

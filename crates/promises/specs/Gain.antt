@@ -1,4 +1,4 @@
--- What a power of two does to `svd`. Laws only.
+-- What a power of two does to `svd`, to hypot and to `tql2`. Laws only.
 use mathlib.Core.Bool.{false, true}
 use mathlib.Core.List.{map}
 use mathlib.Core.Path.{_≡_}
@@ -8,10 +8,17 @@ use lib.Ieee.{Float, binary64, fin, fits}
 use lib.IntN.{negsuc, pos, ℤ}
 use lib.ListN.{length}
 use Rattle.answers.specs.Answers.{decompositionLength, least}
+use Rattle.eigen_tql2.specs.Tql2.{tql2}
+use Rattle.gain_path_theorems.specs.HypotFine.{HypotFine}
+use Rattle.gain_path_theorems.specs.HypotScaled.{pythag-scaled}
+use Rattle.gain_path_theorems.specs.Numbers.{Doubles}
+use Rattle.gain_path_theorems.specs.Tql2Fine.{Tql2Fine, Tql2Gained}
+use Rattle.gain_path_theorems.specs.Tql2Scaled.{tql2-gain}
+use Rattle.hypot.specs.Edition.{pythag}
 use Rattle.svd_gain_theorems.specs.Fine.{SvdFine}
 use Rattle.svd_gain_theorems.specs.Gain.{gain-keeps-basis}
 use Rattle.svd_gain_theorems.specs.Gained.{Gained}
-use Rattle.svd_gain_theorems.specs.Scale.{fine, scale}
+use Rattle.svd_gain_theorems.specs.Scale.{Scaled, fine, scale}
 use Rattle.svd_gain_theorems.specs.Times.{scale-times}
 use Rattle.svd_gain_theorems.specs.Cases.{Fails, Keeps, fineOrOver, gained, large, matrix, outcome, small, tiny}
 use Rattle.svd_gain_theorems.specs.Counter.{overflow-done, overflow-needed, subnormal-needed, zero-product-needed}
@@ -71,3 +78,14 @@ t33-overflow-needed = overflow-needed
 -- Though the call of that matrix answers 0.
 pub t33-overflow-done : outcome 2 2 large .0 .answer ≡ 0
 t33-overflow-done = overflow-done
+
+-- In either edition the hypot of two doubles times 2^k is 2^k times their hypot, where both are zero, or finite and above 2^-1022, and zero only where both sides are.
+pub t43-hypot-gain : (k edition : ℕ) (x y : Float) {x' y' : Float} → Scaled k x x' → Scaled k y y' → T (fits binary64 x) → T (fits binary64 y)
+    → T (fits binary64 x') → T (fits binary64 y') → HypotFine edition x y → HypotFine edition x' y' → Scaled k (pythag edition x y) (pythag edition x' y')
+t43-hypot-gain = pythag-scaled
+
+-- `tql2` of a v with d and e and with 2^k times them, all doubles and both runs in the normal range: the four numbers and the vectors are the same, and the values are multiplied by 2^k.
+pub t47-tql2-gain : (k n limit edition : ℕ) (v d e : Vec) → Doubles d → Doubles e → Doubles (map (scale (pos k)) d) → Doubles (map (scale (pos k)) e)
+    → Tql2Fine n limit edition (v, d, e) → Tql2Fine n limit edition (v, map (scale (pos k)) d, map (scale (pos k)) e)
+    → Tql2Gained k (tql2 n limit edition (v, d, e)) (tql2 n limit edition (v, map (scale (pos k)) d, map (scale (pos k)) e))
+t47-tql2-gain = tql2-gain

@@ -91,7 +91,7 @@ whole-pos (suc j) n p h = go (ltb 0 (n / 4)) (ltb→lt 0 (n / 4)) (whole j (n / 
         second false = omega arith
 
 -- t more digits, with as many times 4 in the number
-whole-scale : (J t n : ℕ) → 0 < n → n * 2 ^ (t + t) < 2 ^ (J + J) → whole J (n * 2 ^ (t + t)) / 2 ^ t ≡ whole J n
+pub whole-scale : (J t n : ℕ) → 0 < n → n * 2 ^ (t + t) < 2 ^ (J + J) → whole J (n * 2 ^ (t + t)) / 2 ^ t ≡ whole J n
 whole-scale J t n p h =
     let one : 2 ^ (t + t) ≤ n * 2 ^ (t + t) = subst (λ (x : ℕ). x ≤ n * 2 ^ (t + t)) (one-mul (2 ^ (t + t))) (mul-le-mul-right (2 ^ (t + t)) p) in
     let l : t + t < J + J = lt-of-not-le (λ (g : J + J ≤ t + t). not-le-of-lt (lt-of-le-of-lt (pow-mono g) (lt-of-le-of-lt one h)) (omega arith)) in
@@ -115,7 +115,7 @@ cut w = size (w / 2) - 53
 quarter-half : (w : ℕ) → (2 * w + 1) / 4 ≡ w / 2
 quarter-half w = omega arith
 
-whole-part : (w K : ℕ) → 0 < K → (2 * w + 1) * K / (4 * K) ≡ w / 2
+pub whole-part : (w K : ℕ) → 0 < K → (2 * w + 1) * K / (4 * K) ≡ w / 2
 whole-part w K h =
     div-same ((2 * w + 1) * K) (4 * K) (2 * w + 1) 4 (mul-pos (omega arith) h) (omega arith) (simp (mul-assoc, mul-comm, mul-left-comm)) ∙ quarter-half w
 
@@ -150,7 +150,7 @@ size-cut x t h =
 half-cut : (w t : ℕ) → w / 2 / 2 ^ t ≡ w / 2 ^ t / 2
 half-cut w t = div-div-eq-div-mul w 2 (2 ^ t) ∙ ap (λ (p : ℕ). w / p) (mul-comm 2 (2 ^ t)) ∙ sym (div-div-eq-div-mul w (2 ^ t) 2)
 
-middle-scaled : (w w' t : ℕ) → w' / 2 ^ t ≡ w → 53 ≤ size (w / 2) → T (finite (round binary64 false (2 * w + 1) (2 ^ 1076)))
+pub middle-scaled : (w w' t : ℕ) → w' / 2 ^ t ≡ w → 53 ≤ size (w / 2) → T (finite (round binary64 false (2 * w + 1) (2 ^ 1076)))
     → T (finite (round binary64 false (2 * w' + 1) (2 ^ 1076)))
     → round binary64 false (2 * w' + 1) (2 ^ 1076) ≡ scale (pos t) (round binary64 false (2 * w + 1) (2 ^ 1076))
 middle-scaled w w' t h N f g =
@@ -172,7 +172,7 @@ middle-scaled w w' t h N f g =
 four : (u K : ℕ) → 4 * (u * K) / 4 ≡ u * K
 four u K = omega arith
 
-root-low : (w : ℕ) → 0 < w / 2 → 2 ^ 1076 ≤ (2 * w + 1) * 2 ^ 1074
+pub root-low : (w : ℕ) → 0 < w / 2 → 2 ^ 1076 ≤ (2 * w + 1) * 2 ^ 1074
 root-low w h = mul-le-mul-right (2 ^ 1074) (low w h)
   where
     low : (w : ℕ) → 0 < w / 2 → 4 ≤ 2 * w + 1
@@ -216,7 +216,7 @@ units-is a e r K h g =
     swap : (a e r : ℕ) → a * (e * r) ≡ a * r * e
     swap a e r = simp (mul-assoc, mul-comm)
 
-units-scaled : (a e r K P a' e' : ℕ) → 0 < e → 0 < e' → e * r ≡ K → a' * e ≡ a * P * e' → a' * K / e' ≡ a * K / e * P
+pub units-scaled : (a e r K P a' e' : ℕ) → 0 < e → 0 < e' → e * r ≡ K → a' * e ≡ a * P * e' → a' * K / e' ≡ a * K / e * P
 units-scaled a e r K P a' e' E E' g h =
     let c : a' * K * e ≡ a * P * K * e' = swap a' K e ∙ ap (λ (x : ℕ). x * K) h ∙ swap (a * P) e' K in
     div-same (a' * K) e' (a * P * K) e E' E c
@@ -227,7 +227,7 @@ units-scaled a e r K P a' e' E E' g h =
     swap : (a b c : ℕ) → a * b * c ≡ a * c * b
     swap a b c = simp (mul-assoc, mul-comm)
 
-units-high : (a e K L B : ℕ) → 0 < e → 0 < K → a < L * e → L * K ≤ B → a * K / e < B
+pub units-high : (a e K L B : ℕ) → 0 < e → 0 < K → a < L * e → L * K ≤ B → a * K / e < B
 units-high a e K L B E k h l =
     div-lt-iff-lt-mul E .1
     (lt-of-lt-of-le (mul-lt-mul-of-pos-right h k) (subst (λ (x : ℕ). x ≤ B * e) (swap L K e) (mul-le-mul-right e l)))

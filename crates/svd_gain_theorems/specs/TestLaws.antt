@@ -21,11 +21,11 @@ use Rattle.svd_gain_theorems.specs.Along.{Along, Rounds}
 use Rattle.svd_gain_theorems.specs.Fine.{GramFine, nothing, SkipFine, RotationFine, TurnFine, gramOf, PairFine, PairsFine, SweepFine, NormFine, ColumnFine, RunFine}
 use Rattle.svd_gain_theorems.specs.Test.{productTest, along, roundsTest, gramTest, skipTest, rotationTest, turnTest, pairTest, sweepTest, columnTest, runTest}
 
-or-r : (a b : Bool) → T (a || b) → a ≡ false → T b
+pub or-r : (a b : Bool) → T (a || b) → a ≡ false → T b
 or-r true b t e = absurd (true≢false e)
 or-r false b t e = t
 
-of-product : (x y : Float) → T (productTest fine false x y) → Product x y
+pub of-product : (x y : Float) → T (productTest fine false x y) → Product x y
 unfolding productTest
 of-product x y t =
     record { good = and-l (fine (x ⊗ y)) _ t; zeros = λ z. is (isZero x || isZero y) (or-r (not (isZero (x ⊗ y))) (isZero x || isZero y) (and-r (fine (x ⊗ y)) _ t) (ap not z)) }
@@ -45,13 +45,13 @@ of-every p (suc n) j t h = go (ltb j n) refl (of-every p n j (and-l (every p n) 
         let o : n ≡ j = omega (arith, ltb-false j n e) in
         subst (λ (i : ℕ). T (p i)) o (and-r (every p n) (p n) t)
 
-of-along : {S : Type 0} (f : ℕ → S → S) (p : ℕ → S → Bool) (P : ℕ → S → Type 0) (a b : ℕ) (s : S) → ((j : ℕ) (s : S) → T (p j s) → P j s) → T (along f p a b s) → Along f P a b s
+pub of-along : {S : Type 0} (f : ℕ → S → S) (p : ℕ → S → Bool) (P : ℕ → S → Type 0) (a b : ℕ) (s : S) → ((j : ℕ) (s : S) → T (p j s) → P j s) → T (along f p a b s) → Along f P a b s
 unfolding along
 of-along f p P a b s h t j l m =
     let o : a + (j - a) ≡ j = omega arith in
     h j (upto f a j s) (subst (λ (i : ℕ). T (p i (upto f a i s))) o (of-every (λ d. p (a + d) (upto f a (a + d) s)) (b - a) (j - a) t (omega arith)))
 
-of-rounds : {S : Type 0} (f : S → S) (e : S → Bool) (p : S → Bool) (P : S → Type 0) (k : ℕ) (s : S) → ((s : S) → T (p s) → P s) → T (roundsTest f e p k s) → Rounds f e P k s
+pub of-rounds : {S : Type 0} (f : S → S) (e : S → Bool) (p : S → Bool) (P : S → Type 0) (k : ℕ) (s : S) → ((s : S) → T (p s) → P s) → T (roundsTest f e p k s) → Rounds f e P k s
 unfolding roundsTest Rounds
 of-rounds f e p P zero s h t = tt
 of-rounds f e p P (suc k) s h t = (h s (and-l (p s) _ t), λ z. of-rounds f e p P k (f s) h (or-r (e (f s)) _ (and-r (p s) _ t) z))
