@@ -16,6 +16,7 @@
 #                    the covariance through the archive against 128-bit integers: SEED=..
 # make bench         document 000's Rust and the archive in one run; make bench-plot puts it into docs/BENCHMARKS.md, with its picture
 # make bench-root    the square root as it is compiled, beside the processor's and the former one
+# make bench-worst   how long a call takes on bad input, on x86-64
 # make gate-test     that the gate can't be told to pass
 # make proofs-lazy   versions that do less work than document 000, definition, code and proof alike: a computed row must refuse each (tests/lazy)
 .PHONY: all test gate-test fmt kit edits-all proofs-lazy proofs-fresh clean
@@ -43,7 +44,7 @@ gate-test:
 fmt:
 	@$(RT) fmt --check
 
-# tools/kit has the line of the toolchain that the proofs were tried with; KIT_ANY=1 takes another one.
+# tools/kit has a line for each toolchain that the proofs were tried with; KIT_ANY=1 takes another one.
 kit:
 	@RT='$(RT)' sh tools/kit.sh
 

@@ -178,7 +178,8 @@
  * MEMORY
  *
  * An entry uses no heap, no file, and no memory but the arrays lent and its stack. This much stack is enough for each,
- * in bytes, the call itself included, whatever the sizes (measured by painting the stack, and held by the tests):
+ * in bytes, the call itself included, whatever the sizes (measured by painting the stack, and held by the tests), where
+ * memcpy, memmove and memset are bound already:
  *
  *     lanczos                                              24,576
  *     store_put, _length, _fetch, _drop, _reset            12,288
@@ -187,7 +188,11 @@
  *     solve, pseudo_inverse, covariance                     4,096
  *     all others                                              512
  *
- * CREWELMARSH_STACK_MOST is enough for any call. The code is some 55 KB, and the library has no writable memory.
+ * A program that is linked without -z now, as by gcc's default, binds a function of C's library when it first calls it.
+ * An entry that is the first to come to one of these three takes the loader's stack besides, some 3 KB (docs/C.md):
+ * link with -z now, or have 4 KB more. CREWELMARSH_STACK_MOST was enough for any call either way.
+ *
+ * The code is some 55 KB, and the library has no writable memory.
  *
  * HOW LONG A CALL TAKES
  *
@@ -196,10 +201,11 @@
  * steps, each of a product with the matrix and two rounds over the vectors so far, and then symmetric_eigen of s by s.
  * What the others do is bounded by their sizes and lengths.
  *
- * What was found by a search for bad input (docs/C.md): symmetric_eigen 3 passes a value at the most, and 1.7 times
- * the time of an ordinary covariance; svd all of 60 sweeps, on numbers near 2^-280: 10, 7 and 6 times the time of an
- * ordinary matrix at 16, 64 and 256. A lower limit bounds it: an outcome that is not 9 is the same at every higher
- * limit (T4, T13, T35).
+ * What was found by a search for bad input on an AMD EPYC, x86-64 (docs/C.md): symmetric_eigen 3 passes a value at the
+ * most, and 1.9, 1.4 and 1.3 times the time of an ordinary covariance at 16, 64 and 256; svd all of 60 sweeps, on
+ * numbers near 2^-510, whose products are subnormal: 11, 10 and 10 times the time of an ordinary matrix, 1.9 seconds at
+ * 256; lanczos up to 2.3 times, qr_q up to 1.7 times. On a processor that is slower with subnormal numbers it may be
+ * more. A lower limit bounds it: an outcome that is not 9 is the same at every higher limit (T4, T13, T35).
  *
  * WHICH MACHINE
  *
@@ -313,7 +319,7 @@ enum {
        taken: split them into groups. */
     CREWELMARSH_DIMENSION = 1,
 
-    /* The limit is outside 1 to 60 (symmetric_eigen, lanczos, svd). Place 0.
+    /* The limit is outside 1 to 60 (symmetric_eigen, eigen_start, lanczos, svd). Place 0.
        Pass 60 if in doubt. */
     CREWELMARSH_LIMIT = 2,
 
@@ -334,9 +340,9 @@ enum {
        Take lengths from the helpers below. They count numbers, not bytes, and depend on the flags. */
     CREWELMARSH_LENGTH = 6,
 
-    /* A number read is a NaN or infinite. Place: where it stands in the array, so row place / columns, column
-       place % columns; in solve, indices from decomposition_len on are of the right side, in lanczos those from
-       matrix_len on of the start vector.
+    /* A number read is a NaN or infinite. Place: where it stands in the array, so of a matrix row place / columns,
+       column place % columns; a decomposition, and the result that leading takes, have their values in front. In solve,
+       indices from decomposition_len on are of the right side, in lanczos those from matrix_len on of the start vector.
        The fault is in what the caller computed. Look at samples, sums and divisions by zero there. */
     CREWELMARSH_NOT_FINITE = 7,
 
@@ -367,7 +373,7 @@ enum {
        A NaN is mostly a 0 / 0 in what the caller computed, as where the largest value is 0. */
     CREWELMARSH_TOLERANCE = 11,
 
-    /* The edition is not 1 or 2 (symmetric_eigen, lanczos). Place 0.
+    /* The edition is not 1 or 2 (symmetric_eigen, eigen_start, lanczos). Place 0.
        Pass 1 where the bits must be those of an archive, else 1 or 2 as EDITIONS says. A huge number is mostly an
        argument left out: the edition stands between the limit and the matrix. */
     CREWELMARSH_EDITION = 12,
@@ -859,9 +865,9 @@ struct crewelmarsh_answer crewelmarsh_leading(
  *     run = crewelmarsh_eigen_finish(run, work, n, result, n + n * n);
  *     if (run.answer.answer != CREWELMARSH_DONE) ...
  *
- * A step costs one pass: at n = 256 some 0.06 ms of a run of some 20 ms (docs/BENCHMARKS.md). The start costs more,
- * since the reduction is not divided: a quarter of the run or more. The finish looks once at each number, and sorts:
- * 0.15 ms.
+ * A step costs one pass: at n = 256 less than 0.1 ms of a run of 16 to 22 ms (docs/BENCHMARKS.md). The start costs
+ * more, since the reduction is not divided: a quarter of the run or more. The finish looks once at each number, and
+ * sorts: some 0.2 ms.
  *
  * While a run goes on its stop is 0, and its arrays hold no result: e stands in work, d in the first n numbers of
  * result, and behind them v column by column, so that cell (i, j) is at n + j * n + i. What symmetric_eigen says of the
@@ -1128,7 +1134,7 @@ struct crewelmarsh_answer crewelmarsh_qr_q(
 enum {
     CREWELMARSH_VALUES = 1,  /* min(rows, columns) numbers */
     CREWELMARSH_MATRIX = 2,  /* rows * columns numbers, row by row */
-    CREWELMARSH_INVERSE = 3  /* rows * columns numbers, row by row */
+    CREWELMARSH_INVERSE = 3  /* rows * columns numbers, row by row of the inverse, whose rows are the block's columns */
 };
 
 /* The longest block. */

@@ -13,7 +13,7 @@ ORACLE_SOURCES := $(wildcard oracle/src/*.rs)
 ORACLE_RUSTC := $(RUSTC) --edition 2024 -C opt-level=3
 ORACLE_ENTRIES := $(ENTRIES:crewelmarsh_%=%)
 
-.PHONY: verbatim oracle oracle-check oracle-mutants oracle-standin findings cases compare compare-hypot gain bench bench-plot plot-check bench-calls bench-codec bench-blocks bench-root bench-steps bench-lanczos has-rustc
+.PHONY: verbatim oracle oracle-check oracle-mutants oracle-standin findings cases compare compare-hypot gain bench bench-plot plot-check bench-calls bench-codec bench-blocks bench-root bench-steps bench-lanczos bench-worst has-rustc
 
 has-rustc:
 	@command -v $(RUSTC) >/dev/null || { echo "the oracle is Rust, and there is no $(RUSTC) here"; exit 1; }
@@ -95,7 +95,7 @@ compare: $(ORACLE)/oracle build/tests/runner compare-hypot
 PAIRS ?= 2000000
 
 target/bin/test_vectors: $(CRATE_FILES)
-	$(RT) check vectors
+	$(RT) check test_vectors
 
 compare-hypot: $(ORACLE)/oracle target/bin/test_vectors
 	$(ORACLE)/oracle hypots $(SEED) $(PAIRS) | split -l 1900 --filter='$(RUN) target/bin/test_vectors' >$(ORACLE)/hypots
@@ -193,6 +193,15 @@ bench-steps: $(ORACLE)/bench
 # The leading pairs alone beside all of them.
 bench-lanczos: $(ORACLE)/bench
 	$(BENCH) lanczos
+
+# How long a call takes on bad input: no rustc. Of the archive as C calls it, so on x86-64 alone.
+$(ORACLE)/worst: oracle/worst.c include/crewelmarsh.h $(ARCHIVE)
+	@mkdir -p $(ORACLE)
+	@[ "$$(uname -m)" = x86_64 ] || { echo 'bench-worst: this machine is not x86-64, and a time under the emulator says nothing'; exit 1; }
+	$(CC) -std=c99 -Wall -Wextra -O2 -Iinclude oracle/worst.c $(ARCHIVE) -lm -o $@
+
+bench-worst: $(ORACLE)/worst
+	$(ORACLE)/worst $(SEED)
 
 # The root as it is compiled, held to the processor's and measured beside it and beside what stood there before, and both editions of hypot; no archive and no
 # rustc.

@@ -1,7 +1,8 @@
 #!/usr/bin/env python3
 """book.py FOLDER: the pages of the book, held to what they should be. Run by tests/book.sh; needs chromium and tidy.
 
-By text: every link leads to a page and a place that are there, none leads outside, no id is there twice; tidy has nothing to say.
+By text: every link leads to a page and a place that are there, none leads outside, no id is there twice; of each wrong version what is shown as
+standing there does, with what replaces it behind it; tidy has nothing to say.
 In a browser, each page 1400 and 390 pixels wide: nothing is wider than the page and no line is cut off, with every fold open; folding, the filter and the
 switch of the order do what they say. And with no script at all: everything is there and open, and the switch works.
 """
@@ -98,6 +99,15 @@ def links(pages, folder):
             yield f"{name}: something is fetched"
 
 
+def edits(name, text):
+    for edit in re.findall(r'<div class="edit">(.*?)</div>', text, re.S):
+        label, *parts = re.split(r'<span class="dim">([^<]*)</span>', edit)
+        for file, body in zip(parts[::2], parts[1::2]):
+            stands, shown = pathlib.Path("crates", file).read_text(), re.findall(r'<pre class="(\w+)">(.*?)</pre>', body, re.S)
+            if not shown or [k for k, _ in shown] != ["old", "new"] * (len(shown) // 2) or any(html.unescape(x) not in stands for _, x in shown[::2]):
+                yield f"{name}: {re.sub('<[^>]*>', '', label).strip()} of {file}: what is shown as standing there does not, or nothing replaces it"
+
+
 def tidy(name, folder):
     got = subprocess.run(["tidy", "-q", "-e", "-utf8", "--drop-empty-elements", "no", name], cwd=folder, capture_output=True, text=True)
     return [f"tidy: {name}: {l}" for l in got.stderr.splitlines()]
@@ -125,7 +135,7 @@ def main():
         print(f"book-test: not tried, since there is no {' and no '.join(missing)} here (Debian has packages of these names)")
         return 1
     pages = {p.name: p.read_text() for p in sorted(folder.glob("*.html"))}
-    faults = [*links(pages, folder), *(x for name in pages for x in tidy(name, folder)), *browser(list(pages), folder)]
+    faults = [*links(pages, folder), *(x for name in pages for x in [*edits(name, pages[name]), *tidy(name, folder)]), *browser(list(pages), folder)]
     print("\n".join(faults[:60] + [f"book-test: {len(pages)} pages, {len(WIDTHS)} widths, with and without script; {len(faults)} faults"]))
     return bool(faults or not pages)
 

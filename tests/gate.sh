@@ -4,7 +4,7 @@
 #
 #   c  this tree with a wrong number in tools/counts: a quick check fails
 #   a  a check behind rt ci fails, for every archive but other.a
-#   k  rt is not the one of tools/kit
+#   k  rt is none of tools/kit
 #   r  rt ci fails, unless something of the environment reaches it
 #   o  a gate of the old style, which takes its lists and programs from make: this one the way does tell to pass, where the letter stands, else the ways would show nothing
 #
@@ -101,7 +101,7 @@ plant() { # TREE COUNTS-CHECK BOUNDARY VERSION BEFORE-CI
     shift 3
     # what a way may find
     mkdir bin elsewhere elsewhere/tools
-    stand_in 'cat tools/kit' : >yes
+    stand_in 'head -n 1 tools/kit' : >yes
     stand_in "$1" "$2" >bin/rt
     chmod +x yes bin/rt
     : >other.a
@@ -109,12 +109,12 @@ plant() { # TREE COUNTS-CHECK BOUNDARY VERSION BEFORE-CI
     printf 'override %s\n' 'QUICK :=' 'GATE :=' 'REST :=' 'MAKE := true' 'RT := ./yes' 'ARCHIVE := other.a' 'KIT_ANY := 1' >vars.mk
     { echo 'include Makefile'; cat vars.mk; printf '%s:\n\t@:\n' counts-check boundary check; } >over.mk # its rules are the later ones
 }
-(plant c 'sh tools/counts.sh' : 'cat tools/kit' : && cp -R "$tree/crates.txt" "$tree/crates" "$tree/include" .)
-(plant a : '[ $(ARCHIVE) = other.a ]' 'cat tools/kit' :)
+(plant c 'sh tools/counts.sh' : 'head -n 1 tools/kit' : && cp -R "$tree/crates.txt" "$tree/crates" "$tree/include" "$tree/edits" . && mkdir tests && cp -R "$tree/tests/lazy" tests)
+(plant a : '[ $(ARCHIVE) = other.a ]' 'head -n 1 tools/kit' :)
 (plant k : : 'echo rattle-kit-0 logic 0' :)
-(plant r : : 'cat tools/kit' '[ -n "${RATTLE_HOME:-}${RT:-}${MAKEFLAGS:-}${MAKEFILES:-}" ] || { echo "4 passed, 1 failed"; exit 1; }')
+(plant r : : 'head -n 1 tools/kit' '[ -n "${RATTLE_HOME:-}${RT:-}${MAKEFLAGS:-}${MAKEFILES:-}" ] || { echo "4 passed, 1 failed"; exit 1; }')
 (
-    plant o : : 'cat tools/kit' :
+    plant o : : 'head -n 1 tools/kit' :
     cat >Makefile <<'OLD'
 QUICK := check
 GATE := check

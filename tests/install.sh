@@ -2,7 +2,7 @@
 # install.sh VERSION NAME..: 'make install' and 'make release' in a scratch folder, then what a C codec would do with them: gcc and g++ by
 # pkg-config, cmake, the archive and the shared library, and headers that don't fit. NAME.. are the entries' names in the libraries.
 # Run by 'make install-test'. Needs gcc for x86-64 (GCC, GXX are other names of it and of g++, RUNNER what its programs run under elsewhere); says what it
-# didn't try where g++, pkg-config, cmake or nm is missing. AGAIN=1 also builds the archive anew in another folder. Status 1 on a failure.
+# didn't try where g++, pkg-config, cmake or nm is missing. AGAIN=0 leaves away that the archive is built anew in another folder. Status 1 on a failure.
 set -u
 
 version=$1
@@ -223,6 +223,19 @@ names=$*
 try "$gcc" c99 c11
 have "$gxx" 'C++' && try "$gxx" c++98 c++17
 
+# ---- what docs/C.md shows, as it is typed there
+
+# block LANGUAGE FILE: the first text of that language in it.
+block() { awk -v head="\`\`\`$1" '$0 == head { on = 1; next } on && /^```/ { exit } on' "$2"; }
+shown=$scratch/prefix/$docs/C.md
+mkdir "$scratch/typed"
+block c "$shown" >"$scratch/typed/two.c"
+block cmake "$shown" >"$scratch/typed/CMakeLists.txt"
+writes=$(awk '$0 == "$ ./two" { on = 1; next } on && /^```/ { exit } on' "$shown")
+check "the program of docs/C.md" quietly "$gcc" -std=c99 -Wall -Wextra -I"$scratch/prefix/include" "$scratch/typed/two.c" "$a" -o "$scratch/typed/two"
+check 'what it writes' same "$($run "$scratch/typed/two")" "$writes"
+check 'the program of README.md is the same' same "$(block c README.md)" "$(block c docs/C.md)"
+
 # ---- the example over OpenJPEG (examples/spectral)
 
 if flags=$(sh examples/spectral/openjpeg.sh "$gcc"); then
@@ -282,6 +295,8 @@ if have cmake 'the CMake package'; then
     check 'cmake' project fits "$major" "$scratch/prefix"
     check 'cmake, the archive' same "$($run "$scratch/fits/build/two")" "$said"
     check 'cmake, the shared library' same "$($run "$scratch/fits/build/two_shared")" "$said"
+    check 'cmake, the project of docs/C.md' sh -c "cmake -S '$scratch/typed' -B '$scratch/typed/out' -DCMAKE_PREFIX_PATH='$scratch/prefix' && cmake --build '$scratch/typed/out'"
+    check 'what it writes' same "$($run "$scratch/typed/out/two")" "$writes"
     check 'cmake, exact version' project exact "$version EXACT" "$scratch/prefix"
     check 'cmake, libraries further down' project down "$major.0" "$scratch/stage/usr"
     refused 'cmake, another machine' 'are for x86-64 Linux' env CFLAGS=-U__x86_64__ sh -c "$(command -v cmake) -S '$scratch/fits' -B '$scratch/elsewhere' -DCMAKE_PREFIX_PATH='$scratch/prefix'"
@@ -312,10 +327,10 @@ fi
 
 # ---- the archive from another folder
 
-if [ -n "${AGAIN:-}" ]; then
-    check 'the archive from another folder' "$make" -s archive-again ARCHIVE="$archive"
-else
-    echo "AGAIN=1 would build the archive anew in another folder: not tried"
+if [ "${AGAIN:-}" = 0 ] || [ "$archive" != dist/libcrewelmarsh.a ]; then
+    untried="$untried archive-again"
+elif have "${RT:-rt}" 'the archive from another folder'; then
+    check 'the archive from another folder' "$make" -s archive-again
 fi
 
 echo "install: $checks checks, $failed failed${untried:+; not tried:$untried}"

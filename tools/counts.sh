@@ -8,6 +8,8 @@
 #   labels           theorems: the different N of the statements tN-NAME of the crate promises
 #   statements       those statements
 #   boundary-checks  what the C tests ran, machine-checks what tests/machine ran, list-cases the cases of lanczos' list: tools/c.mk holds the runs to them
+#   edits-outside    edits that the gate leaves out, edits/
+#   lazy-versions    patches of tests/lazy
 set -u
 CDPATH='' cd -- "$(dirname "$0")/.." || exit 2
 status=0
@@ -25,6 +27,8 @@ statements() { declared | xargs sed -n 's/^pub \(t[0-9][0-9]*\)-[^ ]* :.*/\1/p';
 
 holds crates "$(grep -c '^[A-Za-z_]' crates.txt)"
 holds edits "$(ls crates/*/must-fail/*.edit | wc -l | tr -d ' ')"
+holds edits-outside "$(ls edits/*/*.edit | wc -l | tr -d ' ')"
+holds lazy-versions "$(ls tests/lazy/*.patch | wc -l | tr -d ' ')"
 holds entries "$(cat crates/crewelmarsh/src/*.rt | grep -c '^pub extern "C" fn ')"
 holds entries "$(grep -c '^#define crewelmarsh_[a-z_]* CREWELMARSH_NAME' include/crewelmarsh.h)"
 # shellcheck disable=SC2016
@@ -39,6 +43,6 @@ holds statements "$(statements | wc -l | tr -d ' ')"
 for name in boundary-checks machine-checks list-cases; do
     [ -n "$(said $name)" ] || { echo "counts: tools/counts has no number $name" >&2; status=1; }
 done
-[ "$(grep -vc '^#' tools/counts)" -eq 9 ] || { echo 'counts: tools/counts has one line for each of nine counts' >&2; status=1; }
+[ "$(grep -vc '^#' tools/counts)" -eq 11 ] || { echo 'counts: tools/counts has one line for each of eleven counts' >&2; status=1; }
 [ "$status" -ne 0 ] || echo "counts: $(sed '/^#/d' tools/counts | tr '\n' ',' | sed 's/,$//; s/,/, /g')"
 exit $status

@@ -3,7 +3,7 @@
 #   make shared          dist/libcrewelmarsh.so.VERSION, from the archive
 #   make install         archive, shared library, header, pkg-config file, CMake package, documents, LICENSE, NOTICE and the book, under PREFIX; without python3 no book
 #   make release         the same files in dist/crewelmarsh-VERSION-x86_64-linux.tar, with checksums and what they were built from
-#   make install-test    all of that tried in a scratch folder with gcc, g++, pkg-config and cmake (GCC, GXX and RUNNER elsewhere than on x86-64)
+#   make install-test    all of that tried in a scratch folder with gcc, g++, pkg-config and cmake (GCC, GXX and RUNNER elsewhere than on x86-64), and archive-again (not with AGAIN=0)
 #
 #   make archive-again   the archive built once more from a copy of this tree in another folder, and compared (FRESH=1 proves everything there from nothing)
 #
@@ -42,7 +42,7 @@ release: $(ARCHIVE) $(SHARED)
 	@sh tools/install/release.sh $(RELEASE) $(VERSION) $(ARCHIVE) $(SHARED) "$$($(RT) version)"
 
 install-test: $(ARCHIVE) $(SHARED)
-	@MAKE='$(MAKE)' ARCHIVE='$(ARCHIVE)' GCC='$(GCC)' GXX='$(GXX)' RUNNER='$(RUNNER)' sh tests/install.sh $(VERSION) $(ENTRIES)
+	@MAKE='$(MAKE)' RT='$(RT)' ARCHIVE='$(ARCHIVE)' GCC='$(GCC)' GXX='$(GXX)' RUNNER='$(RUNNER)' sh tests/install.sh $(VERSION) $(ENTRIES)
 
 archive-again: $(ARCHIVE)
 	@RT='$(RT)' FRESH='$(FRESH)' sh tools/install/again.sh $(ARCHIVE)

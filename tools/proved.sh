@@ -1,11 +1,12 @@
 #!/bin/sh
 # proved.sh: whether rt proved the archive with no axiom, by the line that it writes for each crate into target/log/NAME.say: `logic=proved functions=.. sum=..`. The
 # crates are crewelmarsh, promises, and all that these use. The line of each has no `axioms=` and no `foreign=`, and its `sum=`, of the logic that the proof was checked
-# in, is the one of tools/kit; that of crewelmarsh has a `target=`: rt staticlib wrote it, with the archive.
+# in, is that of the kit at hand, a line of tools/kit; that of crewelmarsh has a `target=`: rt staticlib wrote it, with the archive.
 set -u
 CDPATH='' cd -- "$(dirname "$0")/.." || exit 2
-sum=$(sed -n 's/^.* logic \([0-9a-f]*\)$/\1/p' tools/kit)
-[ -n "$sum" ] || { echo 'proved: tools/kit names no sum' >&2; exit 1; }
+sh tools/kit.sh || exit 1
+sum=$(rt version | sed -n 's/^.* logic \([0-9a-f]*\)$/\1/p')
+[ -n "$sum" ] || { echo 'proved: rt version names no sum' >&2; exit 1; }
 
 used=$(sed 's/#.*//' crates.txt | awk '
     { sub(/:/, " "); name = $1; known[name] = 1; for (i = 2; i <= NF; i++) uses[name] = uses[name] " " $i }

@@ -90,23 +90,18 @@ int view_end(void)
 
 /*
  * The inverse for a tile, from its own block where it has one, else from the image's; NULL, or why there is none. A block that is
- * refused has no part for the lookup, so that it would give the image's inverse for a tile whose own block is damaged: hence the
- * check before it. And a part of so many numbers may be of another shape: hence the one behind it.
+ * refused has no part, so that the lookup gives the image's inverse for a tile whose own block is damaged; and a part of so many
+ * numbers may be of another shape. It says both, and both are tested.
  */
 static const char *find_inverse(const struct source *in, struct bytes own, double *inverse, size_t len)
 {
-    struct bytes from = own;
-    struct crewelmarsh_block_part part;
-    struct crewelmarsh_block shape = crewelmarsh_block_check(own.start, own.length);
-    if (own.length > 0 && shape.answer != CREWELMARSH_DONE)
-        return crewelmarsh_text(shape.answer);
-    part = crewelmarsh_block_find(own.start, own.length, in->block.start, in->block.length, CREWELMARSH_INVERSE);
+    struct crewelmarsh_block_part part =
+        crewelmarsh_block_find(own.start, own.length, in->block.start, in->block.length, CREWELMARSH_INVERSE);
+    if (own.length > 0 && part.own_answer != CREWELMARSH_DONE)
+        return crewelmarsh_text(part.own_answer);
     if (part.block == 0)
         return "no block has an inverse";
-    if (part.block == 2)
-        from = in->block;
-    shape = crewelmarsh_block_check(from.start, from.length);
-    if (shape.rows != in->components || shape.columns != in->out->bands)
+    if (part.rows != in->components || part.columns != in->out->bands)
         return "its inverse has another shape";
     must(crewelmarsh_block_copy(own.start, own.length, in->block.start, in->block.length, CREWELMARSH_INVERSE, inverse, len),
          "block_copy");

@@ -35,7 +35,8 @@ static size_t n, k, edition, answer;
 #define STORE list, CREWELMARSH_STORE_LIST_LEN, tiles, CREWELMARSH_STORE_TILES_LEN, bytes, sizeof bytes
 #define EIGEN work, n, result, n + n * n
 
-/* A matrix that is mostly zeros, so that 256 rows take no time: a full corner of 6, and numbers on the diagonal. */
+/* A matrix that is mostly zeros, so that 256 rows take no time: a full corner of 6, and numbers on the diagonal. In edition 2 it is not symmetric, and lanczos
+   walks it in its other way. */
 static void fill(void)
 {
     size_t i, j;
@@ -46,6 +47,8 @@ static void fill(void)
         for (j = 0; j < 6 && i < 6; j++)
             matrix[i * n + j] += 1 / (double)(i + j + 1);
     }
+    if (edition == 2)
+        matrix[n - 1] += 0.5;
     for (i = 0; i < 4 * N; i++)
         samples[i] = (int16_t)(i * 7919 % 4001 - 2000);
 }

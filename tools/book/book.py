@@ -161,9 +161,9 @@ class Book:
         """The must-fail edits of the crates that have the page's definitions, or functions that they are the contract of."""
         out, used = [], {d.crate for d in page.defs + page.words} | {f.crate for d in page.defs for _, f in self.cited.get(d, [])}
         for path in (path for c in self.tree.uses if c in used for path in sorted((ROOT / "crates" / c / "must-fail").glob("*.edit"))):
-            file, *pairs = re.split(r"^(?:old|new|file): ?", path.read_text(), flags=re.M)[1:]
-            out.append(f'<div class="edit"><b>{esc(path.stem.replace("_", " "))}</b> {dim(path.parts[-3] + "/" + file.strip())}'
-                       + "".join(f'<pre class="{css}">{esc(x.rstrip())}</pre>' for css, x in zip(["old", "new"] * len(pairs), pairs)) + "</div>")
+            parts = re.split(r"^(old|new|file): ?", path.read_text(), flags=re.M)[1:]
+            out.append(f'<div class="edit"><b>{esc(path.stem.replace("_", " "))}</b> ' + "".join(
+                dim(f"{path.parts[-3]}/{x.strip()}") if of == "file" else f'<pre class="{of}">{esc(x.rstrip())}</pre>' for of, x in zip(parts[::2], parts[1::2])) + "</div>")
         return f"<p>{len(out)} edits of these crates: green is what stands there, red what the prover must refuse.</p>" + "".join(out)
 
     def call(self, p):
@@ -217,19 +217,19 @@ class Book:
         return self.page("Theorems", "theorems.html", out + "<h2>Words of the programs' theorems</h2>" + "".join(self.definition(d, page) for d in words))
 
     def index(self):
-        wings, believed, rooms = self.tree.wings, {d for p in self.pages for d in p.defs}, {}
+        wings, believed, layers = self.tree.wings, {d for p in self.pages for d in p.defs}, {}
         of = {c: w for w, (_, crates) in wings.items() for c in crates}
-        floor = lambda w: 1 + max((floor(of[u]) for c in wings[w][1] for u in self.tree.uses[c] if of[u] != w), default=-1)
+        layer = lambda w: 1 + max((layer(of[u]) for c in wings[w][1] for u in self.tree.uses[c] if of[u] != w), default=-1)
         for w, (sentence, crates) in wings.items():
-            rooms[floor(w)] = (rooms.get(floor(w), "") + f'<div class="room" style="--h:{self.hues[crates[0]]}">{esc(w)}<small>{esc(sentence)}</small>'
-                               f'<small>{len(crates)} crates, {sum(d.crate in crates for d in believed) or "no"} definitions</small></div>')
+            layers[layer(w)] = (layers.get(layer(w), "") + f'<div class="wing" style="--h:{self.hues[crates[0]]}">{esc(w)}<small>{esc(sentence)}</small>'
+                                f'<small>{len(crates)} crate{"s" * (len(crates) > 1)}, {sum(d.crate in crates for d in believed) or "no"} definitions</small></div>')
         demands = re.split(r"^\d\. ", self.scope.split("## The three demands", 1)[1].split("\n\n", 2)[1], flags=re.M)[1:]
         calls = [("<br>".join(a(f"{p.href}#{c}", f"<code>crewelmarsh_{c}</code>") for c in p.c), esc(p.gives), len(p.defs),
                   ", ".join(f"<code>{f}</code>" for f in p.home) or "none") for p in self.pages]
         return self.page("Crewelmarsh, to be read", "index.html", (HERE / "index.html").read_text().replace("COUNT", str(len(believed)))
                          .replace("<!-- demands -->", "".join(f"<li>{inline(x)}</li>" for x in demands))
                          .replace("<!-- calls -->", table(calls, ["in C", "what it gives", "definitions", "document 000"]))
-                         .replace("<!-- wings -->", "".join(f'<div class="floor">{rooms[k]}</div>' for k in sorted(rooms, reverse=True))))
+                         .replace("<!-- wings -->", "".join(f'<div class="layer">{layers[k]}</div>' for k in sorted(layers, reverse=True))))
 
 def main():
     book, out = Book(), pathlib.Path(sys.argv[1] if len(sys.argv) > 1 else "build/book")

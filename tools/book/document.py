@@ -102,7 +102,7 @@ def worked(tree, name):
         number = struct.unpack(">d", bytes.fromhex(x[2:].replace("_", "")))[0] if x[:2] == "0x" else x
         return re.sub(r"(?<!-0)\.0$", "", str(number)).replace("nan", "NaN").replace("inf", "infinity").replace("[]", "")
     kind = next(l for d in tree.decls.values() if (d.name, d.kind) == ("Row", "data") for l in d.text if l.split()[0] == name)
-    head = ["answer array" if (n, many) == ("answer", "List") else "answer" if n == "number" else n
+    head = ["answer array" if (n, many) == ("answer", "List") else "answer" if n == "number" else "steps" if (name, n) == ("steps", "k") else n
             for names, many in re.findall(r"\(([^:()]*) : (List)?", kind) for n in names.split()]
     found = [(d, m[1]) for d in tree.decls.values() if (d.crate, d.module) == ("promises", "Worked")
              for l in d.stated() for m in [re.match(rf"\s*(?:∷|\()\s*{name} (.*)", l)] if m]

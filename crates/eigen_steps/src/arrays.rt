@@ -96,7 +96,7 @@ pub fn close_up(n: usize, r: Run, work: &mut [f64], result: &mut [f64]) -> Answe
 
 // ---- a step
 
-// The machine's step where d stands in the result, with room for d.
+// A step of `eigen_tql2_step` where d stands in the result, with room for d.
 fn step_in(
     n: usize,
     limit: usize,

@@ -12,7 +12,7 @@ use Rattle.grid.specs.TableLaws.{table-same, turns}
 use Rattle.matvec.specs.Matvec.{rowStep, product}
 use Rattle.matvec.specs.Strips.{columnStep}
 
--- ---- the mirror
+-- ---- whether a matrix is symmetric
 
 abbrev pub Row : ℕ → Vec → ℕ → Type 0
 Row n a i = (j : ℕ) → j < i → entry a n i j ≡ entry a n j i

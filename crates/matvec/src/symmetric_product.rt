@@ -11,7 +11,7 @@ use crate::dots;
 use crate::weighted_rows::sum;
 use grid::entry;
 
-// ---- the mirror
+// ---- whether a matrix is symmetric
 
 // Whether x and y are the same number: 0 and -0 are two, all NaNs are one.
 fn same(x: f64, y: f64) -> bool
@@ -51,7 +51,7 @@ fn rows_same(n: usize, i: usize, a: &[f64]) -> bool
     true
 }
 
-// Whether the n by n matrix a has four rows or more and is its own mirror. Below four rows the dots are as good.
+// Whether the n by n matrix a has four rows or more and is symmetric. Below four rows the dots are as good.
 pub fn mirrored(n: usize, a: &[f64]) -> bool
     requires { ⌜ (n ≤ 256) × (length (now a) ≡ n * n) ⌝ }
     ensures { λ r. ⌜ (r ≡ true) ↔ ((4 ≤ n) × Mirror n (now (a .entry))) ⌝ }
