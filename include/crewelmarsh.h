@@ -141,14 +141,14 @@
  * by its inverse afterwards; the vectors stay. The same can befall a part of a matrix that is so small by
  * itself, beside numbers near 1: set to 0 what is that far below the largest.
  *
- * What svd promises: every number of a matrix may be multiplied by 2^k, k above or below 0, sizes, flags, limit and
- * lengths being equal. If in both calls each number given or computed is zero, or finite and above 2^-1022 in
- * magnitude, and no product or quotient of nonzero numbers comes out zero, then all four numbers of the answer
- * agree; on 0 U and V^T are the same bits and each value is multiplied by 2^k; on any other answer both results are
- * all +0.0, or both untouched. This is proved (T33). Numbers from 2^-250 to 2^250 mostly stay in that range; a call
- * doesn't say whether they did. On a codec's own path, from samples to vectors, it is proved of covariance (samples
- * times 2^k give entries times 4^k: T42); of symmetric_eigen each of its halves is proved, tred2 and tql2 (T47), and
- * the whole tried.
+ * What svd and symmetric_eigen promise: every number of a matrix may be multiplied by 2^k, k above or below 0, sizes,
+ * flags, limit, edition and lengths being equal. If in both calls each number given or computed is zero, or finite and
+ * above 2^-1022 in magnitude, and no product or quotient of nonzero numbers comes out zero, then all four numbers of
+ * the answer agree; on 0 U and V^T, or the eigenvectors, are the same bits and each value is multiplied by 2^k; on any
+ * other answer both results are all +0.0, or both untouched. This is proved (T33, T48). Numbers from 2^-250 to 2^250
+ * mostly stay in that range; a call doesn't say whether they did. So on a codec's own path, from samples to vectors:
+ * samples times 2^k give covariances times 4^k (T42), and those the same vectors and values times 4^k (T49). lanczos
+ * does not promise it: its 1e-12 does not grow with the matrix.
  *
  * WHICH BITS
  *

@@ -1,5 +1,6 @@
 //! Gain and `svd` (docs/landings/11-gain.md): random matrices and 2^k times each. Every operation of both runs is watched, in document 000's own text and in the patched one, over a
-//! number that notes what comes out; where what the theorem asks held in both, what it says is compared. And the same of the patched `symmetric_eigen`, of which there is no theorem.
+//! number that notes what comes out; where what the theorem asks held in both, what it says is compared. And the same of the patched `symmetric_eigen` (T48), and of samples whose
+//! covariance it is called with (T49).
 
 use oracle::cases::{Random, numbers, two};
 use oracle::{patched as unwatched, plain};
@@ -345,50 +346,107 @@ fn svd(rng: &mut Random, cases: u64, largest: u64) -> bool {
     broken == 0 && by_request > 0
 }
 
-/// The patched `symmetric_eigen`, hypot being one operation; of what carries a power of the gain the same is asked.
-fn symmetric_eigen(rng: &mut Random, cases: u64, largest: u64) -> bool {
-    let (mut run, mut held, mut broken, mut moved) = (0u64, 0u64, 0u64, 0u64);
-    let mut answers = [0u64; 11];
-    for _ in 0..cases {
-        let n = 1 + rng.below(largest) as usize;
-        let (limit, edition) = (rng.of(&[1, 2, 3, 30, 60]), 1 + rng.below(2) as usize);
-        let a = if rng.one_in(2) { numbers(rng, n, n) } else { (0..n * n).map(|_| rng.unit()).collect() };
-        let k = random_gain(rng);
-        let Some(b) = a.iter().map(|&x| scaled(x, k)).collect::<Option<Vec<f64>>>() else { continue };
-        run += 1;
-        let outcome = |a: &[f64]| {
-            let (mut work, mut result) = (vec![7.5; n], vec![-7.5; n + n * n]);
-            let answer = unwatched::symmetric_eigen(n, limit, edition, a, &mut work, &mut result);
-            SEEN.set(Seen::default());
-            let cells: Vec<Watched> = a.iter().map(|&x| given(x)).collect();
-            let (mut watched_work, mut watched) = (vec![literal(7.5); n], vec![literal(-7.5); n + n * n]);
-            let told = patched::symmetric_eigen(n, limit, edition, &cells, &mut watched_work, &mut watched);
-            assert_eq!([told.answer, told.place, told.index, told.count], [answer.answer, answer.place, answer.index, answer.count]);
-            assert!(same(&watched.iter().map(|x| x.0).collect::<Vec<_>>(), &result));
-            (Outcome { answer, work, result }, SEEN.get().asked)
-        };
-        let ((x, p), (y, q)) = (outcome(&a), outcome(&b));
+/// A call of the patched `symmetric_eigen`, watched too, hypot being one operation; and what was missed of what T48 asks (of the last l the bound is asked here, and not there).
+fn eigen_outcome(n: usize, limit: usize, edition: usize, a: &[f64]) -> (Outcome, Bad) {
+    let (mut work, mut result) = (vec![7.5; n], vec![-7.5; n + n * n]);
+    let answer = unwatched::symmetric_eigen(n, limit, edition, a, &mut work, &mut result);
+    SEEN.set(Seen::default());
+    let cells: Vec<Watched> = a.iter().map(|&x| given(x)).collect();
+    let (mut watched_work, mut watched) = (vec![literal(7.5); n], vec![literal(-7.5); n + n * n]);
+    let told = patched::symmetric_eigen(n, limit, edition, &cells, &mut watched_work, &mut watched);
+    assert_eq!([told.answer, told.place, told.index, told.count], [answer.answer, answer.place, answer.index, answer.count]);
+    assert!(same(&watched.iter().map(|x| x.0).collect::<Vec<_>>(), &result));
+    (Outcome { answer, work, result }, SEEN.get().asked)
+}
+
+/// Pairs of calls of `symmetric_eigen`: how many were run, where what is asked held, by answer, and how many of those and of the others moved.
+#[derive(Default)]
+struct Pairs {
+    run: u64,
+    held: u64,
+    answers: [u64; 11],
+    broken: u64,
+    moved: u64,
+}
+
+impl Pairs {
+    /// The matrix a, and b, which is 2^k times it.
+    fn add(&mut self, n: usize, limit: usize, edition: usize, k: i64, a: &[f64], b: &[f64]) {
+        let ((x, p), (y, q)) = (eigen_outcome(n, limit, edition, a), eigen_outcome(n, limit, edition, b));
         // n values and n * n numbers behind them: laid out as an svd's with one factor
         let call = Call { m: n, n, flags: [1, 0], limit, work_len: n, result_len: n + n * n };
         let kept = keeps(&call, k, &x, &y);
+        self.run += 1;
         if p.and(q).none() {
-            held += 1;
-            answers[x.answer.answer] += 1;
-            broken += !kept as u64;
+            self.held += 1;
+            self.answers[x.answer.answer] += 1;
+            self.broken += !kept as u64;
         } else {
-            moved += !kept as u64;
+            self.moved += !kept as u64;
         }
     }
-    println!("symmetric_eigen: {run} matrices run twice; the same held in {held}, by answer 0 to 10: {answers:?}; of those {broken} moved, of the others {moved}");
-    broken == 0
+
+    fn tell(&self, what: &str) -> bool {
+        let Pairs { run, held, answers, broken, moved } = self;
+        println!("{what}: {run} run twice; what the theorem asks held in {held}, by answer 0 to 10: {answers:?}; of those {broken} moved, of the others {moved}");
+        *broken == 0 && *held > 0
+    }
+}
+
+fn random_eigen(rng: &mut Random, largest: u64) -> (usize, usize, usize) {
+    (1 + rng.below(largest) as usize, rng.of(&[1, 2, 3, 30, 60]), 1 + rng.below(2) as usize)
+}
+
+fn symmetric_eigen(rng: &mut Random, cases: u64, largest: u64) -> bool {
+    let mut pairs = Pairs::default();
+    for _ in 0..cases {
+        let (n, limit, edition) = random_eigen(rng, largest);
+        let a = if rng.one_in(2) { numbers(rng, n, n) } else { (0..n * n).map(|_| rng.unit()).collect() };
+        let k = random_gain(rng);
+        let Some(b) = a.iter().map(|&x| scaled(x, k)).collect::<Option<Vec<f64>>>() else { continue };
+        pairs.add(n, limit, edition, k, &a, &b);
+    }
+    pairs.tell("symmetric_eigen")
+}
+
+/// The covariance of n bands of samples, which are so few that no entry is over 2^53.
+fn covariance(n: usize, samples: &[i64]) -> Vec<f64> {
+    let long = samples.len() / n;
+    let bands: Vec<&[i64]> = samples.chunks(long).collect();
+    let sum = |x: &[i64]| x.iter().sum::<i64>();
+    let entry = |x: &[i64], y: &[i64]| long as i64 * x.iter().zip(y).map(|(x, y)| x * y).sum::<i64>() - sum(x) * sum(y);
+    let entries = bands.iter().flat_map(|x| bands.iter().map(move |y| entry(x, y)));
+    entries.inspect(|z| assert!(z.abs() <= 1 << 53)).map(|z| z as f64).collect()
+}
+
+/// Up to 40 samples a band and 2^k times them, of 16 bits both: their covariances, and `symmetric_eigen` of those. In half of them each band leans on the first, as an image's do.
+fn path(rng: &mut Random, cases: u64, largest: u64) -> bool {
+    let mut pairs = Pairs::default();
+    for _ in 0..cases {
+        let (n, limit, edition) = random_eigen(rng, largest);
+        let bits = 1 + rng.below(15);
+        let k = 1 + rng.below(16 - bits) as i64;
+        let long = 1 + rng.below(40) as usize;
+        let mut samples: Vec<i64> = (0..n * long).map(|_| rng.below(1 << bits) as i64 - (1 << (bits - 1))).collect();
+        if rng.one_in(2) {
+            for i in long..n * long {
+                samples[i] = (3 * samples[i % long] + samples[i]) / 4;
+            }
+        }
+        let louder: Vec<i64> = samples.iter().map(|&x| x << k).collect();
+        let (a, b) = (covariance(n, &samples), covariance(n, &louder));
+        assert!(a.iter().zip(&b).all(|(&x, &y)| scaled(x, 2 * k) == Some(y)));
+        pairs.add(n, limit, edition, 2 * k, &a, &b);
+    }
+    pairs.tell("covariance, then symmetric_eigen")
 }
 
 fn main() {
     let words: Vec<u64> = std::env::args().skip(1).map(|w| w.parse().expect("a number")).collect();
     let (seed, cases, largest) = (words[0], words[1], words[2]);
     let mut rng = Random::new(seed);
-    let done = [svd(&mut rng, cases, largest), symmetric_eigen(&mut rng, cases, largest)];
-    if done != [true; 2] {
+    let done = [svd(&mut rng, cases, largest), symmetric_eigen(&mut rng, cases, largest), path(&mut rng, cases, largest)];
+    if done != [true; 3] {
         std::process::exit(1);
     }
 }

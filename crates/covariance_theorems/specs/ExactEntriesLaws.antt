@@ -109,7 +109,7 @@ stands-finite (fin s m e) z h = refl
 
 module _ (n N : ℕ) (samples : List ℤ) (m : Vec) where
   -- where the answer is 0, the checks pass, no entry is over, and the matrix is there
-  done-is : covariance n N samples m .0 .answer ≡ 0
+  pub done-is : covariance n N samples m .0 .answer ≡ 0
       → (covariance n N samples m .1 ≡ matrixOf n N samples) × (n * n ≤ firstOver n N samples) × Sizes n N (length samples) (length m)
   unfolding covariance computed
   done-is h = go (eqb (check .answer) 0) refl (ltb (firstOver n N samples) (n * n)) refl

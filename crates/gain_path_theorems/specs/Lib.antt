@@ -22,3 +22,15 @@ pub mod Places
 pub mod ReductionScaled
 pub mod AccumulationScaled
 pub mod Tred2Scaled
+-- `symmetric_eigen` under a power of two: the whole call.
+pub mod EigenFine
+pub mod EigenScaled
+-- What it asks, computed.
+pub mod EigenTest
+pub mod EigenTestLaws
+pub mod EigenCases
+pub mod EigenWorked
+pub mod EigenCounter
+-- From samples to vectors.
+pub mod PathGain
+pub mod PathWorked

@@ -1,5 +1,5 @@
 -- A number and a vector in two runs: the second is 2 ^ k times the first, and both are doubles. Each operation keeps that.
-use mathlib.Core.Path.{_≡_, refl, sym, ap, ap₂, _∙_, subst, subst₂}
+use mathlib.Core.Path.{_≡_, refl, sym, ap, ap₂, _∙_, subst}
 use mathlib.Core.Bool.{Bool, true, false}
 use Prim.Native.Nat.{ℕ, zero, suc, _+_, _≤_, _<_}
 use native.Mathlib.Nat.{add-zero}
@@ -8,13 +8,15 @@ use borrow.Author.Tests.{ltb-true, ltb-false, eqb-true, eqb-false}
 use lib.Dec.{T, ltb, eqb}
 use lib.IntN.{pos}
 use lib.Ieee.{Float, nan, inf, fin, binary64, fits, lt, le}
-use lib.Ieee.Fits.{add-fits, sub-fits, mul-fits, div-fits}
+use lib.Ieee.Fits.{nan-fits, add-fits, sub-fits, mul-fits, div-fits}
 use lib.ListN.{length, set, List·getD-eq-default}
 use lib.Seq.{getD-set-same, getD-set-other, set-out}
 use Rattle.grid.specs.Real.{Vec, at, zero64, _⊕_, _⊖_, _⊗_, _⊘_}
+use Rattle.grid.specs.Table.{table}
+use Rattle.grid.specs.TableLaws.{at-table, length-table}
 use Rattle.leaves.specs.Leaf.{magnitude}
 use Rattle.hypot.specs.Edition.{pythag}
-use Rattle.svd_gain_theorems.specs.Scale.{scale, fine, Scaled, Product, Quotient}
+use Rattle.svd_gain_theorems.specs.Scale.{fine, Scaled, Product, Quotient}
 use Rattle.svd_gain_theorems.specs.ScaleLaws.{scale-none}
 use Rattle.svd_gain_theorems.specs.Compare.{magnitude-scaled, lt-scaled, le-scaled}
 use Rattle.svd_gain_theorems.specs.Ops.{mul-scaled, mul-same, add-scaled, sub-scaled, div-same, div-scaled}
@@ -128,3 +130,12 @@ pair-at k d d' i h = record { is = h .alike .each i; first = h .first i; second 
 
 pub zero-n : (k : ℕ) → Number k zero64 zero64
 zero-n k = record { is = zero-is k; first = zero-fits; second = zero-fits }
+
+pub table-fits : (f : ℕ → Float) (n : ℕ) → ((i : ℕ) → T (fits binary64 (f i))) → Doubles (table f n)
+table-fits f n h i = go (ltb i n) refl
+  where
+    go : (b : Bool) → ltb i n ≡ b → T (fits binary64 (at (table f n) i))
+    go true e = rw (at-table f n i (ltb-true i n e)) (h i)
+    go false e =
+        let l : length (table f n) ≤ i = omega (arith, length-table f n, ltb-false i n e) in
+        rw (List·getD-eq-default (table f n) nan l) (nan-fits binary64)

@@ -1,6 +1,6 @@
 -- **tql2-gain**: `tql2` of d and e and of 2 ^ k times them, with the same v. Laws only.
-use mathlib.Core.Path.{_≡_, refl, sym, ap, ap₂, _∙_, subst, subst₂}
-use mathlib.Core.Bool.{Bool, true, false, cond, not, true≢false}
+use mathlib.Core.Path.{_≡_, refl, sym, ap, ap₂, _∙_, subst}
+use mathlib.Core.Bool.{Bool, true, false, cond, not}
 use mathlib.Core.List.{_++_, map}
 use Prim.Native.Nat.{ℕ, zero, suc, _+_, _-_, _≤_, _<_}
 use native.Mathlib.Omega.{arith}
@@ -8,11 +8,11 @@ use borrow.Author.Tests.{ltb-true, ltb-false, eqb-true}
 use lib.Dec.{T, ltb, eqb}
 use lib.IntN.{pos}
 use lib.Ieee.{Float, nan, lt}
-use lib.ListN.{length, set, length-map, List·getD-map}
+use lib.ListN.{set, length-map}
 use lib.Seq.{ext-getD}
 use Rattle.grid.specs.Loop.{upto, first, seek, rounds}
 use Rattle.grid.specs.LoopLaws.{upto-keeps}
-use Rattle.grid.specs.Real.{Vec, at, zero64, epsilon, _⊕_}
+use Rattle.grid.specs.Real.{Vec, at, zero64, _⊕_}
 use Rattle.leaves.specs.Leaf.{magnitude, larger}
 use Rattle.leaves.specs.Scan.{firstBad, byRows, isBad}
 use Rattle.leaves.specs.declared.Bad.{Bad}
@@ -26,11 +26,11 @@ use Rattle.eigen_tql2.specs.Sort.{better, leastFrom, swapped, sortStep, sorted}
 use Rattle.eigen_tql2.specs.Finish.{mark2, qlFinished}
 use Rattle.eigen_tql2.specs.Tql2.{upStep, movedUp, tql2}
 use Rattle.eigen_tql2.specs.declared.sort.Best.{Best}
-use Rattle.svd_gain_theorems.specs.Scale.{scale, fine, Product}
+use Rattle.svd_gain_theorems.specs.Scale.{scale, fine}
 use Rattle.svd_gain_theorems.specs.Along.{Along, Rounds}
 use Rattle.svd_gain_theorems.specs.AlongLaws.{rounds-both}
-use Rattle.svd_gain_theorems.specs.Alike.{Alike}
 use Rattle.svd_gain_theorems.specs.Found.{match, bad-same, both-same}
+use Rattle.svd_gain_theorems.specs.Gain.{at-map}
 use Rattle.gain_path_theorems.specs.PassFine.{PassFine}
 use Rattle.gain_path_theorems.specs.Numbers.{Number, Doubles, Pair, add-n, lt-n, magnitude-n, pair-set, pair-at, zero-n}
 use Rattle.gain_path_theorems.specs.PassScaled.{Runs, States, tiny-same, pass-scaled, along-keeps}
@@ -215,11 +215,11 @@ sorted-scaled k n x x' h = upto-keeps (Sorts k) (sortStep n) (sortStep n) 0 (n -
 
 -- ---- how it ends
 
-record Ends (k : ℕ) (x x' : Answer × Vec × Vec × Vec) : Type 0 where
-  answers : x' .0 ≡ x .0
-  v : x' .1 ≡ x .1
-  d : Pair k (x .2) (x' .2)
-  e : Pair k (x .3) (x' .3)
+pub record Ends (k : ℕ) (x x' : Answer × Vec × Vec × Vec) : Type 0 where
+  pub answers : x' .0 ≡ x .0
+  pub v : x' .1 ≡ x .1
+  pub d : Pair k (x .2) (x' .2)
+  pub e : Pair k (x .3) (x' .3)
 
 finished-scaled : (k n : ℕ) (x x' : State) → States k x x' → Ends k (qlFinished n x) (qlFinished n x')
 unfolding qlFinished mark2
@@ -269,23 +269,19 @@ finished-scaled k n (r, v, d, e) (r', v', d', e') h = go (eqb (r .stop) limitUse
 fresh-runs : (k : ℕ) → Runs k fresh fresh
 fresh-runs k = record { l = refl; m = refl; f = zero-n k; tst1 = zero-n k; passes = refl; count = refl; stop = refl; index = refl }
 
-tql2-scaled : (k n limit edition : ℕ) (v d e d' e' : Vec) → Pair k d d' → Pair k e e' → Tql2Fine n limit edition (v, d, e) → Tql2Fine n limit edition (v, d', e')
+pub tql2-scaled : (k n limit edition : ℕ) (v d e d' e' : Vec) → Pair k d d' → Pair k e e' → Tql2Fine n limit edition (v, d, e) → Tql2Fine n limit edition (v, d', e')
     → Ends k (tql2 n limit edition (v, d, e)) (tql2 n limit edition (v, d', e'))
 unfolding tql2
 tql2-scaled k n limit edition v d e d' e' D E F F' =
     finished-scaled k n (run n limit edition (fresh, v, d, movedUp n e)) (run n limit edition (fresh, v, d', movedUp n e'))
     (run-scaled k n limit edition (fresh, v, d, movedUp n e) (fresh, v, d', movedUp n e') F F' (record { run = fresh-runs k; v = refl; d = D; e = up-scaled k n e e' E }))
 
-at-map : (k : ℕ) (a : Vec) (i : ℕ) → at (map (scale (pos k)) a) i ≡ scale (pos k) (at a i)
-unfolding scale
-at-map k a i = List·getD-map (scale (pos k)) a i nan
-
 pair-of : (k : ℕ) (d : Vec) → Doubles d → Doubles (map (scale (pos k)) d) → Pair k d (map (scale (pos k)) d)
-pair-of k d F F' = record { alike = record { long = length-map d (scale (pos k)); each = at-map k d }; first = F; second = F' }
+pair-of k d F F' = record { alike = record { long = length-map d (scale (pos k)); each = at-map (pos k) d }; first = F; second = F' }
 
 as-map : (k : ℕ) (d d' : Vec) → Pair k d d' → d' ≡ map (scale (pos k)) d
 as-map k d d' h =
-    ext-getD nan d' (map (scale (pos k)) d) (h .alike .long ∙ sym (length-map d (scale (pos k)))) (λ i _. h .alike .each i ∙ sym (at-map k d i))
+    ext-getD nan d' (map (scale (pos k)) d) (h .alike .long ∙ sym (length-map d (scale (pos k)))) (λ i _. h .alike .each i ∙ sym (at-map (pos k) d i))
 
 -- **tql2-gain**
 pub tql2-gain : (k n limit edition : ℕ) (v d e : Vec) → Doubles d → Doubles e → Doubles (map (scale (pos k)) d) → Doubles (map (scale (pos k)) e)

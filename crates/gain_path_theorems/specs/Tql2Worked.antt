@@ -1,13 +1,12 @@
 -- `tql2-gain` has something to say: of d = (1, 2) with 1 beside it, and of 8 times them, what it asks is computed, in both editions, and the answer is 0. Laws only.
 use mathlib.Core.Path.{_≡_, refl, sym, subst}
-use mathlib.Core.Bool.{Bool, true}
+use mathlib.Core.Bool.{Bool, true, false}
 use mathlib.Core.List.{[], _∷_, map}
 use Prim.Native.Nat.{ℕ}
 use lib.Dec.{T}
 use lib.IntN.{pos}
-use lib.Count.{trailingZeros}
 use lib.Ieee.{ofBits, neg, add, sub, mul, div, lt, le, eq}
-use Rattle.grid.specs.Loop.{seek, first, every, times, upto, down, rounds, drops, fall}
+use Rattle.grid.specs.Loop.{seek, first, every, times, upto, rounds, drops, fall}
 use Rattle.grid.specs.Real.{Vec, zero64, one64, two64}
 use Rattle.grid.specs.Table.{table}
 use Rattle.root.specs.Root.{whole, rootOf, root}
@@ -35,7 +34,7 @@ given k = (one64 ∷ zero64 ∷ zero64 ∷ one64 ∷ [], map (scale (pos k)) (on
 
 unfoldable pub tested : ℕ → ℕ → Bool
 unfolding given ofBits neg add sub mul div lt le eq seek first every times upto rounds drops fall whole rootOf root table magnitude larger isFinite hypotOf hypot classOf scan placeOf byRows rootOfSum hypot2 pythag signed shift lessened rotated spin spins landed transformed mark1 settled verdict pass split opened closed iterated stage turn movedUp scale isZero fine along roundsTest productTest allOf quotient hypotTest dropsTest tql2Test
-tested edition k = tql2Test 2 3 edition (given k)
+tested edition k = tql2Test fine false 2 3 edition (given k)
 
 unfoldable pub answer : ℕ → ℕ → ℕ
 unfolding given ofBits neg add sub mul div lt le eq seek first times upto rounds drops fall whole rootOf root table magnitude larger isFinite hypotOf hypot classOf scan placeOf byRows rootOfSum hypot2 pythag signed shift lessened rotated spin spins landed transformed mark1 settled verdict pass split opened closed iterated stage turn run movedUp scale leastFrom swapped sortStep sorted mark2 qlFinished tql2

@@ -12,6 +12,7 @@ use Rattle.leaves.specs.Leaf.{magnitude}
 use Rattle.eigen_tred2_definition.specs.Tred2.{scaleStep, scaleOf, overScale, against, generate, similarStep, similarityStep, similarity, overHStep, overH, lessenStep, lessen, updateStep, updatesStep, updates, householder, copyLast}
 use Rattle.svd_gain_theorems.specs.Scale.{fine, Product, Quotient}
 use Rattle.svd_gain_theorems.specs.Along.{Along}
+use Rattle.gain_path_theorems.specs.Numbers.{Pair}
 
 -- ---- the Householder vector, `generate`: scale times g, which becomes e at i
 
@@ -95,3 +96,9 @@ Downs P n (suc i) x = P n (suc i) x × Downs P n i (householder n (suc i) x)
 
 abbrev pub Tred2Fine : ℕ → Vec × Vec × Vec → Type 0
 Tred2Fine n x = Downs TurnFine n (n - 1) (x .0, copyLast n (x .0) (x .1), x .2)
+
+-- what is said of two reductions: v is the same, and d and e are multiplied by 2 ^ k, doubles in both
+pub record Reduced (k : ℕ) (x x' : Vec × Vec × Vec) : Type 0 where
+  pub v : x' .0 ≡ x .0
+  pub d : Pair k (x .1) (x' .1)
+  pub e : Pair k (x .2) (x' .2)

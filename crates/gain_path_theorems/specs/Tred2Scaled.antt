@@ -1,15 +1,15 @@
 -- **tred2-gain**: `tred2` of a matrix and of 2 ^ k times it. Laws only.
-use mathlib.Core.Path.{_≡_, refl, sym, ap, _∙_, subst, subst₂}
+use mathlib.Core.Path.{_≡_, refl, sym, _∙_, subst}
 use mathlib.Core.Bool.{Bool, true, false}
 use Prim.Native.Nat.{ℕ, zero, suc, _+_, _*_, _-_, _/_, _%_, _≤_, _<_}
 use native.Mathlib.Nat.{le-antisymm, div-add-mod', div-lt-iff-lt-mul, mod-lt}
 use native.Mathlib.Omega.{arith}
 use borrow.Author.Tests.{ltb-true, ltb-false}
-use lib.Dec.{T, ltb}
-use lib.Ieee.{Float, nan, binary64}
+use lib.Dec.{ltb}
+use lib.Ieee.{nan}
 use lib.ListN.{length, length-set, List·getD-eq-default}
 use lib.Seq.{ext-getD}
-use Rattle.grid.specs.Loop.{upto, down}
+use Rattle.grid.specs.Loop.{down}
 use Rattle.grid.specs.LoopLaws.{upto-both}
 use Rattle.grid.specs.Real.{Vec, at, zero64, one64}
 use Rattle.grid.specs.Cell.{at2, put2}
@@ -18,7 +18,7 @@ use Rattle.eigen_tred2_definition.specs.Sizes.{tred2-diagonal, tred2-square}
 use Rattle.eigen_tred2_definition.specs.Tred2.{copyLastStep, copyLast, moveStep, moveLast, householder, reduction, accumulation, tred2}
 use Rattle.gain_path_theorems.specs.Numbers.{Number, Pair, pair-set, pair-at, zero-n}
 use Rattle.gain_path_theorems.specs.Places.{Places, place-set, place-as, Cells, cell-put, cell-as, nan-n}
-use Rattle.gain_path_theorems.specs.Tred2Fine.{Tred2Fine}
+use Rattle.gain_path_theorems.specs.Tred2Fine.{Tred2Fine, Reduced}
 use Rattle.gain_path_theorems.specs.ReductionScaled.{same-n, as-same, less, Before, reduction-scaled}
 use Rattle.gain_path_theorems.specs.AccumulationScaled.{Stands, accumulation-scaled, one-fits}
 
@@ -98,11 +98,6 @@ moved n k p (v, d) (v', d') l s =
         }
 
 -- ---- the whole
-
-pub record Reduced (k : ℕ) (x x' : Vec × Vec × Vec) : Type 0 where
-  pub v : x' .0 ≡ x .0
-  pub d : Pair k (x .1) (x' .1)
-  pub e : Pair k (x .2) (x' .2)
 
 -- a matrix whose cells are the same in both
 all-same : (n : ℕ) (v v' : Vec) → length v ≡ n * n → Cells n 0 (λ r c. c < n) v v' → v' ≡ v

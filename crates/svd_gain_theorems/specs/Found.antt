@@ -67,7 +67,7 @@ match-drop n w v h =
       class = λ i. rw (getD-drop n v i nan, getD-drop n w i nan) (h .class (n + i));
     }
 
-scan-match : (x y : ℕ → Float) (n : ℕ) → ((k : ℕ) → isFinite (y k) ≡ isFinite (x k)) → ((k : ℕ) → classOf (y k) ≡ classOf (x k)) → scan y n ≡ scan x n
+pub scan-match : (x y : ℕ → Float) (n : ℕ) → ((k : ℕ) → isFinite (y k) ≡ isFinite (x k)) → ((k : ℕ) → classOf (y k) ≡ classOf (x k)) → scan y n ≡ scan x n
 unfolding scan
 scan-match x y n f c =
     let r : ℕ = first (λ k. not (isFinite (x k))) 0 n in

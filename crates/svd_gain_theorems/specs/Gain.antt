@@ -111,36 +111,36 @@ module _ (k m n wantU wantVt limit : ℕ) (a b work work' result result' : Vec) 
 
 -- ---- down, with the two calls in each other's place
 
-scale-back : (k : ℤ) (x : Float) → scale (negℤ k) (scale k x) ≡ x
+pub scale-back : (k : ℤ) (x : Float) → scale (negℤ k) (scale k x) ≡ x
 unfolding scale
 scale-back k nan = refl
 scale-back k (inf s) = refl
 scale-back k (fin s zero e) = refl
 scale-back k (fin s (suc m) e) = ap (fin s (suc m)) (+ℤ-negℤ-cancel e k)
 
-at-map : (k : ℤ) (a : Vec) (i : ℕ) → at (map (scale k) a) i ≡ scale k (at a i)
+pub at-map : (k : ℤ) (a : Vec) (i : ℕ) → at (map (scale k) a) i ≡ scale k (at a i)
 unfolding scale
 at-map k a i = List·getD-map (scale k) a i nan
 
 -- two results, number by number
-record Results (k : ℤ) (r : ℕ) (x y : Vec) : Type 0 where
-  long : length y ≡ length x
-  low : (i : ℕ) → i < r → at y i ≡ scale k (at x i)
-  high : (i : ℕ) → r ≤ i → at y i ≡ at x i
+pub record Results (k : ℤ) (r : ℕ) (x y : Vec) : Type 0 where
+  pub long : length y ≡ length x
+  pub low : (i : ℕ) → i < r → at y i ≡ scale k (at x i)
+  pub high : (i : ℕ) → r ≤ i → at y i ≡ at x i
 
-values-of : (k : ℤ) (r : ℕ) (x y : Vec) → Results k r x y → take r y ≡ map (scale k) (take r x)
+pub values-of : (k : ℤ) (r : ℕ) (x y : Vec) → Results k r x y → take r y ≡ map (scale k) (take r x)
 values-of k r x y h =
     ext-getD nan (take r y) (map (scale k) (take r x)) (length-take r y ∙ ap (λ (n : ℕ). min r n) (h .long) ∙ sym (length-map (take r x) (scale k) ∙ length-take r x))
     (λ i l.
     let m : i < r = omega (arith, length-take r y) in
     getD-take r y i nan m ∙ h .low i m ∙ ap (scale k) (sym (getD-take r x i nan m)) ∙ sym (at-map k (take r x) i))
 
-factors-of : (k : ℤ) (r : ℕ) (x y : Vec) → Results k r x y → drop r y ≡ drop r x
+pub factors-of : (k : ℤ) (r : ℕ) (x y : Vec) → Results k r x y → drop r y ≡ drop r x
 factors-of k r x y h =
     ext-getD nan (drop r y) (drop r x) (rw (length-drop r y, length-drop r x, h .long))
     (λ i l. getD-drop r y i nan ∙ h .high (r + i) (omega arith) ∙ sym (getD-drop r x i nan))
 
-results-up : (k r : ℕ) (x y : Vec) → Alike (under k r) x y → Results (pos k) r x y
+pub results-up : (k r : ℕ) (x y : Vec) → Alike (under k r) x y → Results (pos k) r x y
 results-up k r x y h =
     record {
       long = h .long;
@@ -148,7 +148,7 @@ results-up k r x y h =
       high = λ i l. equal (at x i) (under k r i) (under-out k r i l) (h .each i);
     }
 
-results-down : (j r : ℕ) (x y : Vec) → Alike (under (suc j) r) y x → Results (negsuc j) r x y
+pub results-down : (j r : ℕ) (x y : Vec) → Alike (under (suc j) r) y x → Results (negsuc j) r x y
 results-down j r x y h =
     record {
       long = sym (h .long);
