@@ -5,7 +5,7 @@
 # make example-openjpeg
 #                    a hyperspectral codec over OpenJPEG, where Debian's libopenjp2-7-dev is there (examples/spectral)
 # make believe       what a reader must believe, in reading order, into build/believe.txt: the contracts that C sees, the theorems' statements, the definitions of both;
-#                    docs/believe.txt is that text, and the gate holds the tree to it (tools/believe.mk)
+#                    docs/believe.txt is that text, and the gate holds the tree to it (tools/believe.mk). CALL=svd prints what stands behind that call
 # make book          the definitions beside document 000, as pages to read, into build/book (tools/book.mk)
 # make install       archive, shared library, header and the rest under PREFIX; make release packs them (tools/install.mk)
 # make edits-all     the must-fail edits that the gate leaves out (edits/)

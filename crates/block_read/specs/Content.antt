@@ -34,17 +34,13 @@ pub record Content (rows columns : ℕ) (ps : List Part) : Type 0 where
 
 -- ---- the block of a content
 
--- a part's kind and count
-abbrev pub Head : Type 0
-Head = ℕ × ℕ
-
 -- the kind and the count of each part
-unfoldable pub heads : List Part → List Head
+unfoldable pub heads : List Part → List (ℕ × ℕ)
 heads [] = []
 heads ((kind, words) ∷ ps) = (kind, length words) ∷ heads ps
 
 -- an entry for each part: kind, offset, count. The first part's numbers start at off, each other's where the last end
-unfoldable pub entriesBytes : ℕ → List Head → List ℕ
+unfoldable pub entriesBytes : ℕ → List (ℕ × ℕ) → List ℕ
 entriesBytes off [] = []
 entriesBytes off ((kind, n) ∷ hs) = three kind off n ++ entriesBytes (off + 8 * n) hs
 

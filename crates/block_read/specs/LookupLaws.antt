@@ -1,13 +1,17 @@
--- The steps of the search for a kind, and that a part that is found stands within its block. Laws only.
+-- The steps of the search for a kind, that a part that is found stands within its block, and what the copy's inner contract cites. Laws only.
 use mathlib.Core.Path.{_≡_, refl, ap, _∙_}
 use mathlib.Core.Bool.{Bool, true, false, cond}
-use mathlib.Core.List.{List}
-use Prim.Native.Nat.{ℕ, zero, suc, _+_, _-_, _*_, _≤_, _<_}
+use mathlib.Core.List.{List, map}
+use Prim.Native.Nat.{ℕ, zero, suc, _+_, _-_, _*_, _/_, _≤_, _<_}
 use native.Mathlib.Omega.{arith}
 use borrow.Author.Tests.{eqb-true, eqb-false, eq-eqb, ne-eqb}
 use lib.Dec.{eqb}
 use lib.ListN.{length}
-use Rattle.octets.specs.Bytes.{num}
+use Rattle.grid.specs.Real.{Vec}
+use Rattle.answers.specs.Answers.{answered, refused}
+use Rattle.answers.specs.declared.Answer.{Answer}
+use Rattle.octets.specs.Bytes.{num, wordsAt}
+use Rattle.octets.specs.Bits.{float}
 use Rattle.block_read.specs.Content.{size}
 use Rattle.block_read.specs.Reading.{entryAnswer, entries, answerOf}
 use Rattle.block_read.specs.CheckLaws.{or-else, entry-good, entries-within, opened}
@@ -21,6 +25,10 @@ use Rattle.block_read.specs.declared.lookup.Span.the-variants.{At, Missi
 abbrev pub Within : ℕ → Span → Type 0
 Within len (At a e) = (a ≤ e) × (e ≤ len)
 Within len Missing = Unit
+
+-- a part as doubles, where out has room for just these, with that place
+abbrev pub copiedTo : ℕ → List ℕ → Vec → Answer × Vec
+copiedTo place part out = cond (eqb (length part / 8) (length out)) (answered 0 place 0 0, map float (wordsAt part 0 (length out))) (refused 6 0, out)
 
 missing-not-at : {a e : ℕ} → Missing ≡ At a e → ⊥
 missing-not-at h =

@@ -4,8 +4,8 @@ ghost use Prim.Native.Nat.{_+_, _*_, _≤_};
 ghost use lib.ListN.{length};
 ghost use denote.Ref.{ptr};
 ghost use Rattle.block_read.specs.Held.{placeIn, held, blockRead, shapeOf};
-ghost use Rattle.block_read.specs.Lookup.{spanOf, partOf, partAt, lookup, lookupAt, foundIn, found, copiedTo, copied};
-ghost use Rattle.block_read.specs.LookupLaws.{Within};
+ghost use Rattle.block_read.specs.Lookup.{spanOf, partOf, partAt, lookup, lookupAt, foundIn, found, copied};
+ghost use Rattle.block_read.specs.LookupLaws.{Within, copiedTo};
 use crate::answer;
 use crate::size;
 use answers::Answer;
@@ -43,8 +43,7 @@ pub enum Span {
     Missing,
 }
 
-// A part by its numbers, for a caller in C: the block, 1 the tile's own, 2 the main one, where in it the part starts, how many doubles it has, that block's
-// rows and columns. All 0 where neither block has one. Then the reader's answer for each block, so that a refused one is seen.
+// A part by its numbers: the block, 1 the tile's own, 2 the main one, its start there, how many doubles, the block's shape, or all 0; then the answer for each block.
 #[repr(C)]
 pub struct Found {
     pub block: usize,

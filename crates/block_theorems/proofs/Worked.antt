@@ -9,7 +9,8 @@ use Rattle.block_read.specs.Content.{Part, size, heads, entriesBytes, numbersBy
 use Rattle.block_read.specs.Reading.{good, dimensions, headAnswer, entryAnswer, endAnswer, entries, behind, answerOf, partsAt, reading}
 use Rattle.block_read.specs.Held.{placeIn}
 use Rattle.block_read.specs.Lookup.{spanOf, lookup, found}
-use Rattle.block_write.specs.Writing.{given, headsAnswer, checked, bytesOf, lengthWith, lengthOf}
+use Rattle.block_write.specs.Writing.{given, headsAnswer, checked, lengthOf}
+use Rattle.block_write.specs.PutLaws.{bytesOf, lengthWith, length-by}
 
 -- one row and two columns: the value 1.0 and an inverse of a NaN with a payload and -0.0
 abbrev pub content : List Part
@@ -75,5 +76,5 @@ writer-order = refl
 -- the lengths of this block, of one with no part, of a full one, and of two that are refused
 pub lengths-worked :
     (lengthOf 1 2 2 1 3 0 ∷ lengthOf 1 2 0 9 9 9 ∷ lengthOf 256 256 3 1 2 3 ∷ lengthOf 1 2 2 3 1 0 ∷ lengthOf 257 1 1 1 0 0 ∷ []) ≡ (60 ∷ 12 ∷ 1050672 ∷ 0 ∷ 0 ∷ [])
-unfolding lengthOf checked dimensions headsAnswer headAnswer given lengthWith bytesOf size least
-lengths-worked = refl
+unfolding checked dimensions headsAnswer headAnswer given lengthWith bytesOf size least
+lengths-worked = rw (length-by 1 2 2 1 3 0, length-by 1 2 0 9 9 9, length-by 256 256 3 1 2 3, length-by 1 2 2 3 1 0, length-by 257 1 1 1 0 0)

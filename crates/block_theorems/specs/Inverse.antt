@@ -17,8 +17,8 @@ use Rattle.block_read.specs.Content.{Part, size, Parts, Content, heads, entries
 use Rattle.block_read.specs.Reading.{dimensions, headAnswer, entryAnswer, entries, behind, answerOf, partsAt, good, reading}
 use Rattle.block_read.specs.Reading as reads
 use Rattle.block_read.specs.CheckLaws.{size-most, or-else, dimensions-good, dimensions-pass, head-good, head-pass, entry-good, entry-pass, ended-good, ended-pass, Opened, opened, entries-within}
-use Rattle.block_write.specs.Writing.{headsAnswer, checked, bytesOf, written}
-use Rattle.block_write.specs.PutLaws.{counts, heads-length, entriesBytes-length, block-length, with-is}
+use Rattle.block_write.specs.Writing.{headsAnswer, checked, written}
+use Rattle.block_write.specs.PutLaws.{bytesOf, counts, heads-length, entriesBytes-length, block-length, with-is}
 use Rattle.block_theorems.specs.Sound.{IsBlock, Numbers, Wrote}
 
 -- ---- what is read is what is written

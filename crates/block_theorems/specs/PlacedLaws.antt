@@ -4,6 +4,7 @@ use mathlib.Core.Path.{_≡_, refl, sym, ap}
 use mathlib.Core.Bool.{Bool, true, false, cond, true≢false}
 use mathlib.Core.List.{List}
 use Prim.Native.Nat.{ℕ, _+_, _*_, _/_, _-_}
+use native.Mathlib.Nat.{zero-add}
 use native.Mathlib.Omega.{arith}
 use lib.Dec.{eqb}
 use lib.ListN.{take, drop}
@@ -60,7 +61,7 @@ found-at p q own main kind = go (spanOf own kind) (spanOf main kind)
         → (named (at own main s u .block) p q .0, at own main s u .start + named (at own main s u .block) p q .1) ≡ first s (partAt p s) (partAt q u)
     go (At a e) u = refl
     go Missing (At a e) = refl
-    go Missing Missing = refl
+    go Missing Missing = ap (λ (k : ℕ). (q .0, k)) (zero-add (q .1))
 
 -- ---- what else is told
 

@@ -6,7 +6,7 @@ use Prim.Native.Nat.{ℕ, suc, _+_, _*_, _≤_, _<_}
 use native.Mathlib.Omega.{arith}
 use borrow.Author.Tests.{ltb-true, ltb-false, eqb-true, eqb-false, lt-ltb, le-ltb, eq-eqb}
 use lib.Dec.{ltb, eqb}
-use lib.ListN.{length, length-append, length-map}
+use lib.ListN.{length, replicate, length-append, length-map, length-replicate}
 use lib.Seq.{sets}
 use Rattle.grid.specs.Real.{Vec}
 use Rattle.octets.specs.Bits.{bits}
@@ -15,17 +15,28 @@ use Rattle.answers.specs.declared.Answer.{Answer}
 use Rattle.octets.specs.Bytes.{three, wordsBytes}
 use Rattle.octets.specs.BytesLaws.{three-length, wordsBytes-length}
 use Rattle.octets.specs.StoreLaws.{put-both, put-whole}
-use Rattle.block_read.specs.Content.{Part, Head, size, heads, entriesBytes, numbersBytes, blockOf}
+use Rattle.block_read.specs.Content.{Part, size, heads, entriesBytes, numbersBytes, blockOf}
 use Rattle.block_read.specs.Reading.{orElse, dimensions, headAnswer}
 use Rattle.block_read.specs.CheckLaws.{Sized, size-most, or-else, dimensions-good, head-good}
-use Rattle.block_write.specs.Writing.{given, headsAnswer, checked, bytesOf, lengthWith, written}
+use Rattle.block_write.specs.Writing.{given, headsAnswer, checked, lengthOf, written}
+
+-- ---- the length as the code computes it
+
+-- how many bytes so many numbers of each part take
+unfoldable pub bytesOf : List ℕ → ℕ
+bytesOf [] = 0
+bytesOf (n ∷ ns) = 8 * n + bytesOf ns
+
+-- of a block with so many parts of these counts
+unfoldable pub lengthWith : ℕ → List ℕ → ℕ
+lengthWith count ns = 12 + 12 * count + bytesOf ns
 
 -- ---- the code's first half: the checks, then all but the numbers
 
-abbrev pub headBytes : ℕ → ℕ → ℕ → List Head → List ℕ
+abbrev pub headBytes : ℕ → ℕ → ℕ → List (ℕ × ℕ) → List ℕ
 headBytes rows columns count hs = three rows columns count ++ entriesBytes (12 + 12 * count) hs
 
-unfoldable pub headed : ℕ → ℕ → ℕ → List Head → List ℕ → List ℕ → ℕ × List ℕ
+unfoldable pub headed : ℕ → ℕ → ℕ → List (ℕ × ℕ) → List ℕ → List ℕ → ℕ × List ℕ
 headed rows columns count hs ns out =
     cond (eqb (checked rows columns count hs) 0)
     (cond (eqb (length out) (lengthWith count ns)) (0, sets out 0 (headBytes rows columns count hs)) (6, out))
@@ -33,7 +44,7 @@ headed rows columns count hs ns out =
 
 -- ---- lengths
 
-pub entriesBytes-length : (off : ℕ) (hs : List Head) → length (entriesBytes off hs) ≡ 12 * length hs
+pub entriesBytes-length : (off : ℕ) (hs : List (ℕ × ℕ)) → length (entriesBytes off hs) ≡ 12 * length hs
 unfolding entriesBytes
 entriesBytes-length off [] = refl
 entriesBytes-length off (h ∷ hs) =
@@ -163,17 +174,17 @@ taken-checked r c count k1 n1 k2 n2 k3 n3 e =
 module _ (count k1 n1 k2 n2 k3 n3 off : ℕ) where
   pub entries-none : (l : List ℕ) → count < 1 → l ≡ sets l 12 (entriesBytes off (given count (k1, n1) (k2, n2) (k3, n3)))
   unfolding entriesBytes
-  entries-none l h = rw (given-none {A = Head} count (k1, n1) (k2, n2) (k3, n3) h)
+  entries-none l h = rw (given-none {A = ℕ × ℕ} count (k1, n1) (k2, n2) (k3, n3) h)
 
   pub entries-one : (l m : List ℕ) → 1 ≤ count → count < 2 → m ≡ sets l 12 (three k1 off n1) → m ≡ sets l 12 (entriesBytes off (given count (k1, n1) (k2, n2) (k3, n3)))
   unfolding entriesBytes
-  entries-one l m g h e = rw (given-one {A = Head} count (k1, n1) (k2, n2) (k3, n3) g h, append-nil (three k1 off n1)) e
+  entries-one l m g h e = rw (given-one {A = ℕ × ℕ} count (k1, n1) (k2, n2) (k3, n3) g h, append-nil (three k1 off n1)) e
 
   pub entries-two : (l m n : List ℕ) → 2 ≤ count → count < 3 → m ≡ sets l 12 (three k1 off n1) → n ≡ sets m 24 (three k2 (off + 8 * n1) n2)
       → n ≡ sets l 12 (entriesBytes off (given count (k1, n1) (k2, n2) (k3, n3)))
   unfolding entriesBytes
   entries-two l m n g h e f =
-      rw (given-two {A = Head} count (k1, n1) (k2, n2) (k3, n3) g h, append-nil (three k2 (off + 8 * n1) n2))
+      rw (given-two {A = ℕ × ℕ} count (k1, n1) (k2, n2) (k3, n3) g h, append-nil (three k2 (off + 8 * n1) n2))
       (put-both l m n 12 24 (three k1 off n1) (three k2 (off + 8 * n1) n2) (rw (three-length k1 off n1)) e f)
 
   pub entries-three : (l m n o : List ℕ) → 3 ≤ count → m ≡ sets l 12 (three k1 off n1) → n ≡ sets m 24 (three k2 (off + 8 * n1) n2)
@@ -183,11 +194,11 @@ module _ (count k1 n1 k2 n2 k3 n3 off : ℕ) where
       let x : List ℕ = three k1 off n1 in
       let y : List ℕ = three k2 (off + 8 * n1) n2 in
       let z : List ℕ = three k3 (off + 8 * n1 + 8 * n2) n3 in
-      rw (given-three {A = Head} count (k1, n1) (k2, n2) (k3, n3) g, append-nil z)
+      rw (given-three {A = ℕ × ℕ} count (k1, n1) (k2, n2) (k3, n3) g, append-nil z)
       (put-both l m o 12 24 x (y ++ z) (rw (three-length k1 off n1)) e
       (put-both m n o 24 36 y z (rw (three-length k2 (off + 8 * n1) n2)) f d))
 
-pub head-put : (r c count : ℕ) (hs : List Head) (l m n : List ℕ) → m ≡ sets l 0 (three r c count) → n ≡ sets m 12 (entriesBytes (12 + 12 * count) hs)
+pub head-put : (r c count : ℕ) (hs : List (ℕ × ℕ)) (l m n : List ℕ) → m ≡ sets l 0 (three r c count) → n ≡ sets m 12 (entriesBytes (12 + 12 * count) hs)
     → n ≡ sets l 0 (headBytes r c count hs)
 head-put r c count hs l m n p q = put-both l m n 0 12 (three r c count) (entriesBytes (12 + 12 * count) hs) (rw (three-length r c count)) p q
 
@@ -222,7 +233,7 @@ module _ (count k1 : ℕ) (p1 : List ℕ) (k2 : ℕ) (p2 : List ℕ) (k3 : ℕ) 
   abbrev parts : List Part
   parts = given count (k1, p1) (k2, p2) (k3, p3)
 
-  abbrev tops : List Head
+  abbrev tops : List (ℕ × ℕ)
   tops = given count (k1, length p1) (k2, length p2) (k3, length p3)
 
   abbrev sums : List ℕ
@@ -310,7 +321,7 @@ module _ (count k1 : ℕ) (p1 : List ℕ) (k2 : ℕ) (p2 : List ℕ) (k3 : ℕ) 
   written-done r c out m n b e =
       let few : count ≤ 3 = b .taken .sized .few in
       let off : ℕ = 12 + 12 * count in
-      let k : length tops ≡ count = given-length {A = Head} count (k1, length p1) (k2, length p2) (k3, length p3) few in
+      let k : length tops ≡ count = given-length {A = ℕ × ℕ} count (k1, length p1) (k2, length p2) (k3, length p3) few in
       let i : length parts ≡ count = given-length {A = Part} count (k1, p1) (k2, p2) (k3, p3) few in
       let size : 0 + length (headBytes r c count tops) ≡ off =
       rw (length-append (three r c count) (entriesBytes off tops), three-length r c count, entriesBytes-length off tops, k) (omega arith) in
@@ -322,3 +333,44 @@ module _ (count k1 : ℕ) (p1 : List ℕ) (k2 : ℕ) (p2 : List ℕ) (k3 : ℕ) 
       let all : n ≡ three r c (length parts) ++ (entriesBytes (12 + 12 * length parts) (heads parts) ++ numbersBytes parts) =
       put ∙ ap (λ (v : List ℕ). sets out 0 v) same ∙ put-whole out _ long in
       rw (eq-eqb (checked r c count (heads parts)) 0 (rw (split .heads-are) (b .checks)), eq-eqb (length out) _ long) (ap (λ (v : List ℕ). (done 0, v)) all)
+
+-- ---- the length by kinds alone
+
+-- a kind, with the count that it has in a block of that shape
+abbrev pub sized : ℕ → ℕ → ℕ → ℕ × ℕ
+sized rows columns kind = (kind, size rows columns kind)
+
+abbrev pub lengthBy : ℕ → ℕ → ℕ → ℕ → ℕ → ℕ → ℕ
+lengthBy rows columns count k1 k2 k3 =
+    cond (eqb (checked rows columns count (given count (sized rows columns k1) (sized rows columns k2) (sized rows columns k3))) 0)
+    (lengthWith count (given count (size rows columns k1) (size rows columns k2) (size rows columns k3))) 0
+
+pub length-by : (r c count k1 k2 k3 : ℕ) → lengthOf r c count k1 k2 k3 ≡ lengthBy r c count k1 k2 k3
+unfolding lengthOf
+length-by r c count k1 k2 k3 =
+    ap (λ (hs : List (ℕ × ℕ)). cond (eqb (checked r c count hs) 0) (length (blockOf r c ps)) 0) tops-are ∙ go (eqb (checked r c count tops) 0) refl
+  where
+    noughts : ℕ → List ℕ
+    noughts kind = replicate (size r c kind) 0
+
+    long : (kind : ℕ) → length (noughts kind) ≡ size r c kind
+    long kind = length-replicate {A = ℕ} (size r c kind) 0
+
+    ps : List Part
+    ps = given count (k1, noughts k1) (k2, noughts k2) (k3, noughts k3)
+
+    tops : List (ℕ × ℕ)
+    tops = given count (sized r c k1) (sized r c k2) (sized r c k3)
+
+    sums : List ℕ
+    sums = given count (size r c k1) (size r c k2) (size r c k3)
+
+    tops-are : heads ps ≡ tops
+    tops-are = split count k1 (noughts k1) k2 (noughts k2) k3 (noughts k3) .heads-are ∙ (λ i. given count (k1, long k1 i) (k2, long k2 i) (k3, long k3 i))
+
+    go : (b : Bool) → eqb (checked r c count tops) 0 ≡ b
+        → cond (eqb (checked r c count tops) 0) (length (blockOf r c ps)) 0 ≡ cond (eqb (checked r c count tops) 0) (lengthWith count sums) 0
+    go true e =
+        let few : count ≤ 3 = taken-checked r c count k1 (size r c k1) k2 (size r c k2) k3 (size r c k3) (eqb-true (checked r c count tops) 0 e) .sized .few in
+        rw e (whole-length count k1 (noughts k1) k2 (noughts k2) k3 (noughts k3) r c few ∙ (λ i. lengthWith count (given count (long k1 i) (long k2 i) (long k3 i))))
+    go false e = rw e

@@ -1,14 +1,14 @@
 -- What the writer answers and leaves in its destination, and how long a block is. Definitions only.
 use mathlib.Core.Bool.{cond}
 use mathlib.Core.List.{List, [], _∷_, map}
-use Prim.Native.Nat.{ℕ, _+_, _*_}
+use Prim.Native.Nat.{ℕ}
 use lib.Dec.{ltb, eqb}
-use lib.ListN.{length}
+use lib.ListN.{length, replicate}
 use Rattle.grid.specs.Real.{Vec}
 use Rattle.answers.specs.Answers.{done, refused}
 use Rattle.answers.specs.declared.Answer.{Answer}
 use Rattle.octets.specs.Bits.{bits}
-use Rattle.block_read.specs.Content.{Part, Head, size, heads, blockOf}
+use Rattle.block_read.specs.Content.{Part, size, heads, blockOf}
 use Rattle.block_read.specs.Reading.{orElse, dimensions, headAnswer}
 
 -- the writer's arguments as a list: the first count of three, each a kind with its count, or with its numbers
@@ -18,34 +18,22 @@ given count a b c = cond (ltb count 1) [] (a ∷ cond (ltb count 2) [] (b ∷ co
 -- ---- refusals 22 and 23, in the reader's order
 
 -- the first refusal of these kinds and counts, where `last` is the kind before them; else 0
-unfoldable pub headsAnswer : ℕ → ℕ → ℕ → List Head → ℕ
+unfoldable pub headsAnswer : ℕ → ℕ → ℕ → List (ℕ × ℕ) → ℕ
 headsAnswer rows columns last [] = 0
 headsAnswer rows columns last ((kind, n) ∷ hs) = orElse (headAnswer rows columns last kind n) (headsAnswer rows columns kind hs)
 
 -- the shape and the number of parts, then each part; 0 where none is refused
-unfoldable pub checked : ℕ → ℕ → ℕ → List Head → ℕ
+unfoldable pub checked : ℕ → ℕ → ℕ → List (ℕ × ℕ) → ℕ
 checked rows columns count hs = orElse (dimensions rows columns count) (headsAnswer rows columns 0 hs)
 
 -- ---- the length
 
--- how many bytes so many numbers of each part take
-unfoldable pub bytesOf : List ℕ → ℕ
-bytesOf [] = 0
-bytesOf (n ∷ ns) = 8 * n + bytesOf ns
-
--- of a block with so many parts of these counts
-unfoldable pub lengthWith : ℕ → List ℕ → ℕ
-lengthWith count ns = 12 + 12 * count + bytesOf ns
-
--- a kind, with the count that it has in a block of that shape
-abbrev pub sized : ℕ → ℕ → ℕ → Head
-sized rows columns kind = (kind, size rows columns kind)
-
--- of the block of that shape with the first count of three kinds; 0 where the writer refuses it
+-- of the block of that shape with the first count of three kinds, whatever its numbers are; 0 where the writer refuses it
 unfoldable pub lengthOf : ℕ → ℕ → ℕ → ℕ → ℕ → ℕ → ℕ
 lengthOf rows columns count k1 k2 k3 =
-    cond (eqb (checked rows columns count (given count (sized rows columns k1) (sized rows columns k2) (sized rows columns k3))) 0)
-    (lengthWith count (given count (size rows columns k1) (size rows columns k2) (size rows columns k3))) 0
+    let part : ℕ → Part = λ kind. (kind, replicate (size rows columns kind) 0) in
+    let ps : List Part = given count (part k1) (part k2) (part k3) in
+    cond (eqb (checked rows columns count (heads ps)) 0) (length (blockOf rows columns ps)) 0
 
 -- ---- the writer
 

@@ -4,7 +4,8 @@ ghost use Prim.Native.Nat.{_+_, _*_, _≤_};
 ghost use lib.ListN.{length};
 ghost use lib.Seq.{sets};
 ghost use Rattle.block_read.specs.Content.{entriesBytes};
-ghost use Rattle.block_write.specs.Writing.{given, bytesOf};
+ghost use Rattle.block_write.specs.Writing.{given};
+ghost use Rattle.block_write.specs.PutLaws.{bytesOf};
 use octets::write::put_three;
 
 // The entries of the first count parts, whose numbers start at off.

@@ -17,8 +17,8 @@ use Rattle.eigen_theorems.specs.Result.{gave, taken-of}
 use Rattle.eigen_theorems.specs.Tql2Lengths.{ran-long}
 use Rattle.eigen_theorems.specs.Tql2OutcomeLaws.{ran-document}
 use Rattle.eigen_theorems.specs.Tql2SortLaws.{sorted-arranged}
-use Rattle.leading.specs.Leading.{given, leading}
-use Rattle.leading.specs.Result.{leading-done, led-value, led-number, led-descends}
+use Rattle.leading.specs.Leading.{leading}
+use Rattle.leading.specs.Result.{given, leading-done, led-value, led-number, led-descends}
 use Rattle.calls_theorems.specs.Eigen.{values-ascend-calls, finite-out-calls}
 
 -- ---- the length of an eigen result

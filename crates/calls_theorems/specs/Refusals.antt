@@ -50,7 +50,7 @@ only-12 n limit edition a work result h = one (ltb 256 n) refl (limitGood limit)
     b = refusal7 (firstBadLower n a)
 
     o : Outcome
-    o = cond (eqb n 0) (cleared n (done 0)) (given n (decomposed n limit edition a (zeros (n * n), zeros n, zeros n)))
+    o = cond (eqb n 0) (cleared n (done 0)) (given n (decomposed n limit edition a (zeros n, zeros n)))
 
     ran : (y : Answer) → y .answer ≡ 12 → RunAnswer y → ⊥
     ran y e = ⊎-elim (λ f. omega arith) (⊎-elim (λ f. omega arith) (⊎-elim (λ f. omega arith) (λ f. omega arith)))

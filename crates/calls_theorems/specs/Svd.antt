@@ -4,17 +4,18 @@ use mathlib.Core.Bool.{true}
 use mathlib.Core.Logic.{_↔_, _⊎_}
 use Prim.Native.Nat.{ℕ, _≤_, _<_}
 use lib.Ieee.{le}
-use lib.ListN.{length, getD}
+use lib.ListN.{length}
 use Rattle.grid.specs.Real.{Vec, at}
 use Rattle.leaves.specs.Leaf.{isFinite}
 use Rattle.answers.specs.Answers.{done, answered, least, decompositionLength}
 use Rattle.answers.specs.Early.{Early}
 use Rattle.answers.specs.Index.{AtMark}
 use Rattle.svd_theorems.specs.SweepsOutcome.{bad, used}
+use Rattle.svd_sort_svd_descending.specs.Result.{uFactor, vFactor, orderOf}
 use Rattle.svd.specs.Svd.{svd}
 use Rattle.svd.specs.VtRow.{rowSpan, partOf}
 use Rattle.svd_theorems.specs.Document.{plainWork}
-use Rattle.svd_theorems.specs.Outcome.{Outcome, Promised, Taken, Done, Halted, Broken2, orderOf, uCell, vtCell, uFactor, vFactor}
+use Rattle.svd_theorems.specs.Outcome.{Outcome, Promised, Taken, Done, Halted, Broken2, uCell, vtCell}
 use Rattle.svd_theorems.specs.OutcomeLaws.{svd-done-exactly, svd-limit-exactly, svd-mark1-exactly, svd-mark2-exactly}
 use Rattle.svd_theorems.specs.Promise.{svd-descends}
 use Rattle.svd_theorems.specs.Limit.{svd-limit-raised}
@@ -57,15 +58,15 @@ module _ (m n u vt limit : ℕ) (matrix work result : Vec) (x : Outcome) (p : Pr
   pub svd-descends-calls : (i j : ℕ) → i < j → j < least m n → le (at (x .2) j) (at (x .2) i) ≡ true
   svd-descends-calls i j l h = subst (λ (o : Outcome). le (at (o .2) j) (at (o .2) i) ≡ true) (sym p) (svd-descends m n u vt limit matrix work result done0 i j l h)
 
-  pub svd-cells-u-calls : (u ≡ 0 → ⊥) → (i k : ℕ) → i < m → k < least m n → at (x .2) (uCell m n i k) ≡ uFactor m n (plainWork m n matrix) i (getD (orderOf m n (plainWork m n matrix)) k 0)
+  pub svd-cells-u-calls : (u ≡ 0 → ⊥) → (i k : ℕ) → i < m → k < least m n → at (x .2) (uCell m n i k) ≡ uFactor m n (plainWork m n matrix) i (orderOf m n (plainWork m n matrix) k)
   svd-cells-u-calls w i k h l = ap (λ (o : Outcome). at (o .2) (uCell m n i k)) p ∙ svd-cells-u m n u vt limit matrix work result done0 w i k h l
 
-  pub svd-cells-vt-calls : (vt ≡ 0 → ⊥) → (k j : ℕ) → k < least m n → j < n → at (x .2) (vtCell m n u k j) ≡ vFactor m n (plainWork m n matrix) j (getD (orderOf m n (plainWork m n matrix)) k 0)
+  pub svd-cells-vt-calls : (vt ≡ 0 → ⊥) → (k j : ℕ) → k < least m n → j < n → at (x .2) (vtCell m n u k j) ≡ vFactor m n (plainWork m n matrix) j (orderOf m n (plainWork m n matrix) k)
   svd-cells-vt-calls w k j h l = ap (λ (o : Outcome). at (o .2) (vtCell m n u k j)) p ∙ svd-cells-vt m n u vt limit matrix work result done0 w k j h l
 
   -- row k of V^T as `vt_row` gives it of what came back
   pub vt-row-cells-calls : (vt ≡ 0 → ⊥) → (k j : ℕ) → k < least m n → j < n
-      → at (partOf (x .2) (rowSpan (length (x .2)) m n u vt k)) j ≡ vFactor m n (plainWork m n matrix) j (getD (orderOf m n (plainWork m n matrix)) k 0)
+      → at (partOf (x .2) (rowSpan (length (x .2)) m n u vt k)) j ≡ vFactor m n (plainWork m n matrix) j (orderOf m n (plainWork m n matrix) k)
   vt-row-cells-calls w k j h l =
       ap (λ (o : Outcome). at (partOf (o .2) (rowSpan (length (o .2)) m n u vt k)) j) p ∙ vt-row-cells m n u vt limit matrix work result done0 w k j h l
 

@@ -2,7 +2,7 @@
 use mathlib.Core.Bool.{cond}
 use mathlib.Core.List.{List}
 use Prim.Native.Nat.{ℕ, _*_}
-use lib.Ieee.{Float, binary64, ofInt}
+use lib.Ieee.{binary64, ofInt}
 use lib.IntN.{ℤ}
 use lib.ListN.{length}
 use Rattle.grid.specs.Real.{Vec}
@@ -22,13 +22,9 @@ sumChecks n N samples out = bandChecks n N (lengths samples (n * N) out n 0 0)
 abbrev pub sumOf : List ℤ → ℕ → ℕ → ℤ
 sumOf samples N x = total N (band samples N x)
 
--- the same as a float
-abbrev pub sumAt : List ℤ → ℕ → ℕ → Float
-sumAt samples N x = ofInt binary64 (sumOf samples N x)
-
--- the sums of all bands, one behind the other
+-- the sums of all bands as doubles, one behind the other
 unfoldable pub sumsOf : ℕ → ℕ → List ℤ → Vec
-sumsOf n N samples = table (sumAt samples N) n
+sumsOf n N samples = table (λ x. ofInt binary64 (sumOf samples N x)) n
 
 -- the answer and the sums, for every input
 unfoldable pub sums : ℕ → ℕ → List ℤ → Vec → Answer × Vec

@@ -9,7 +9,7 @@ use native.Mathlib.Omega.{arith}
 use borrow.Author.Tests.{eqb-true, eqb-false}
 use lib.Dec.{eqb}
 use lib.IntN.{ℤ, pos, negsuc, natAbs, _+ℤ_}
-use lib.Ieee.{Float}
+use lib.Ieee.{Float, binary64, ofInt}
 use lib.ListN.{length, drop}
 use lib.Seq.{getD-take, getD-drop}
 use Rattle.grid.specs.Loop.{upto}
@@ -25,7 +25,7 @@ use Rattle.answers.specs.ChecksLaws.{lengths-index}
 use Rattle.covariance.specs.MatrixEntries.{band}
 use Rattle.covariance.specs.SampleSums.{sampleAt, total}
 use Rattle.covariance.specs.WholeNumbers.{Range, zero-in, wider, add-in, of-i16}
-use Rattle.covariance_sums.specs.Sums.{sumChecks, sumOf, sumAt, sumsOf, sums}
+use Rattle.covariance_sums.specs.Sums.{sumChecks, sumOf, sumsOf, sums}
 use Rattle.covariance_sums.specs.SumsLaws.{Sizes, checked, numbers, sum-small}
 use Rattle.covariance_theorems.specs.Diagonal.{upto-suc}
 use Rattle.covariance_theorems.specs.ExactEntries.{Stands, Untouched}
@@ -87,9 +87,9 @@ module _ (n N : ℕ) (samples : List ℤ) (out : Vec) (o : Answer × Vec) (p : o
         go true e h = (ap (λ (r : Answer × Vec). r .1) p ∙ rw e, checked n N (length samples) (length out) (eqb-true (check .answer) 0 e))
         go false e h = absurd (eqb-false (check .answer) 0 e (rw e at h))
 
-    is-sum : (x : ℕ) → x < n → at (o .1) x ≡ sumAt samples N x
+    is-sum : (x : ℕ) → x < n → at (o .1) x ≡ ofInt binary64 (sumOf samples N x)
     unfolding sumsOf
-    is-sum x l = ap (λ (v : Vec). at v x) (done-is .0) ∙ at-table (sumAt samples N) n x l
+    is-sum x l = ap (λ (v : Vec). at v x) (done-is .0) ∙ at-table (λ k. ofInt binary64 (sumOf samples N k)) n x l
 
     module _ (s : Sixteen samples) where
       in-range : (x : ℕ) → x < n → Range (N * 32767) (N * 32768) (sumOf samples N x)
@@ -106,7 +106,7 @@ module _ (n N : ℕ) (samples : List ℤ) (out : Vec) (o : Answer × Vec) (p : o
       pub sums-finite-out : Finite (o .1)
       unfolding sumsOf
       sums-finite-out k l =
-          let c : k < n = subst (λ (j : ℕ). k < j) (ap length (done-is .0) ∙ length-table (sumAt samples N) n) l in
+          let c : k < n = subst (λ (j : ℕ). k < j) (ap length (done-is .0) ∙ length-table (λ k. ofInt binary64 (sumOf samples N k)) n) l in
           stands-finite (at (o .1) k) (sumOf samples N k) (exactly k c)
 
 -- two calls that differ in what `out` held before, x and y

@@ -1,5 +1,5 @@
 -- What is lent to a run in parts, and what is put together from them afterwards. Laws only.
--- `turnedOut` and `setOut` are what two functions of the code do on the way; no public promise cites them.
+-- `readied`, `setting`, `laidOut`, `turnedOut` and `setOut` are what functions of the code do on the way; no public promise cites them.
 use mathlib.Core.Path.{_≡_, ap, _∙_}
 use mathlib.Core.Bool.{cond}
 use mathlib.Core.List.{_++_}
@@ -15,17 +15,38 @@ use Rattle.answers.specs.declared.Answer.{Answer}
 use Rattle.eigen_tql2_pass.specs.declared.Run.{Run}
 use Rattle.eigen_tql2.specs.LStartEnd.{State}
 use Rattle.eigen_tql2.specs.Finish.{qlFinished}
+use Rattle.eigen_tql2.specs.Tql2.{movedUp}
+use Rattle.eigen_tred2_definition.specs.Tred2.{tred2}
+use Rattle.eigen_symmetric_eigen.specs.Layout.{columns}
+use Rattle.eigen_symmetric_eigen.specs.AfterTred2.{mark0}
 use Rattle.eigen_symmetric_eigen.specs.ResultLaws.{laid}
-use Rattle.eigen_symmetric_eigen.specs.PartsLaws.{outward, behind, behind-put, put-together, zeros-drop}
+use Rattle.eigen_symmetric_eigen.specs.PartsLaws.{outward, behind, behind-put, put-together}
 use Rattle.eigen_tql2_step.specs.Advance.{step}
-use Rattle.eigen_steps.specs.Prepare.{readied}
 use Rattle.eigen_steps.specs.declared.arrays.Stand.{Stand}
-use Rattle.eigen_steps.specs.Arrays.{setting, stateOf, laidOut, closedUp}
+use Rattle.eigen_steps.specs.Arrays.{stateOf, closedUp}
 
 -- ---- how a run stands, and what the last call gave
 
 abbrev pub stood : Run → Answer → Stand
 stood r x = record { run = r; answer = x }
+
+-- ---- where a run begins, and how it comes to stand in the arrays
+
+-- after tred2: what mark 0 saw, and e moved up where that is nothing; of d and e as they are lent
+unfoldable pub readied : ℕ → Vec → Vec × Vec → Bad × Vec × Vec × Vec
+readied n a (d, e) =
+    let (v, d, e) = tred2 n (columns n a, d, e) in
+    cond (isBad (mark0 n v d e)) (mark0 n v d e, v, d, e) (mark0 n v d e, v, d, movedUp n e)
+
+-- made ready, with work and result
+unfoldable pub setting : ℕ → Vec → Bad × Vec × Vec
+setting n a =
+    let (b, v, d, e) = readied n a (zeros n, zeros n) in
+    cond (isBad b) (b, zeros n, zeros (n + n * n)) (b, e, d ++ v)
+
+-- the run, work and result
+abbrev pub laidOut : State → Run × Vec × Vec
+laidOut (r, v, d, e) = (r, e, d ++ v)
 
 -- ---- what the code does with d in an array of its own
 
@@ -64,15 +85,14 @@ module _ (n : ℕ) (R W D v d : Vec) (room : length R ≡ n + n * n) (lv : lengt
   together = ap (_++_ d) (ap (λ (k : ℕ). drop k (putMid n (length R - n) R v)) ld ∙ back)
 
   -- a start
-  pub setting-whole : (a e : Vec) (b : Bad) (q : Bad × Vec × Vec) → D ≡ zeros n → W ≡ zeros n → R ≡ zeros (n + n * n) → length e ≡ n
-      → _≡_ {A = Bad × Vec × Vec × Vec} (b, v, d, e) (readied n a (midOf n (length R - n) R, D, W))
+  pub setting-whole : (a e : Vec) (b : Bad) (q : Bad × Vec × Vec) → D ≡ zeros n → W ≡ zeros n → length e ≡ n
+      → _≡_ {A = Bad × Vec × Vec × Vec} (b, v, d, e) (readied n a (D, W))
       → q ≡ setOut b d e (putMid n (length R - n) R v) → q ≡ setting n a
   unfolding setting setOut
-  setting-whole a e b q cd cw cr le s g =
+  setting-whole a e b q cd cw le s g =
       let f : Bad × Vec × Vec × Vec → Bad × Vec × Vec = λ y. cond (isBad (y .0)) (y .0, zeros n, zeros (n + n * n)) (y .0, y .3, y .2 ++ y .1) in
       let p : setOut b d e (putMid n (length R - n) R v) ≡ f (b, v, d, e) = λ i. cond (isBad b) (b, zeros (le i), zeros (whole-long i)) (b, e, together i) in
-      let m : midOf n (length R - n) R ≡ zeros (n * n) = behind n R fits-behind ∙ ap (drop n) cr ∙ zeros-drop n (n * n) in
-      g ∙ p ∙ ap f (s ∙ (λ i. readied n a (m i, cd i, cw i)))
+      g ∙ p ∙ ap f (s ∙ (λ i. readied n a (cd i, cw i)))
 
   -- a step
   pub moved-whole : (limit edition : ℕ) (r t : Run) (e q : Vec) → D ≡ take n R

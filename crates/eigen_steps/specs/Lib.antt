@@ -1,5 +1,3 @@
--- Prepare: a run made ready for its first l.
-pub mod Prepare
 -- Arrays: a run on the arrays that it is lent. ArraysLaws: laws.
 pub mod Arrays
 pub mod ArraysLaws

@@ -7,8 +7,7 @@ use Rattle.leaves.specs.Scan.{isBad}
 use Rattle.answers.specs.Answers.{done, marked}
 use Rattle.eigen_tql2_pass.specs.Pass.{going, converged}
 use Rattle.eigen_tql2.specs.LStartEnd.{fresh, stopping}
-use Rattle.eigen_steps.specs.Arrays.{setting}
-use Rattle.eigen_steps.specs.ArraysLaws.{stood}
+use Rattle.eigen_steps.specs.ArraysLaws.{stood, setting}
 use Rattle.eigen_steps.specs.declared.arrays.Stand.{Stand}
 
 -- it goes on, unless mark 0 has ended it

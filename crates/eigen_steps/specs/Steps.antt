@@ -1,9 +1,10 @@
 -- What a start, a step and a finish give, for every record and all arrays: (the next record, work afterwards, result afterwards). Definitions only.
 use mathlib.Core.Bool.{Bool, cond, not}
+use mathlib.Core.List.{_++_}
 use Prim.Native.Nat.{ℕ, _+_, _*_}
 use lib.Dec.{ltb, eqb}
 use lib.ListN.{length}
-use Rattle.grid.specs.Real.{Vec}
+use Rattle.grid.specs.Real.{Vec, zeros}
 use Rattle.leaves.specs.Scan.{isBad, firstBadLower}
 use Rattle.answers.specs.Answers.{done, refused, passed, refusal7, marked}
 use Rattle.answers.specs.declared.Answer.{Answer}
@@ -11,8 +12,12 @@ use Rattle.answers.specs.Checks.{limitGood, fittingEdition}
 use Rattle.eigen_tql2_pass.specs.Pass.{going, converged}
 use Rattle.eigen_tql2_pass.specs.declared.Run.{Run}
 use Rattle.eigen_tql2.specs.LStartEnd.{fresh, stopping}
+use Rattle.eigen_tql2.specs.Tql2.{movedUp}
+use Rattle.eigen_tred2_definition.specs.Tred2.{tred2}
+use Rattle.eigen_symmetric_eigen.specs.Layout.{columns}
+use Rattle.eigen_symmetric_eigen.specs.AfterTred2.{mark0}
 use Rattle.eigen_symmetric_eigen.specs.SymmetricEigen.{cleared}
-use Rattle.eigen_steps.specs.Arrays.{setting, stateOf, laidOut, closedUp}
+use Rattle.eigen_steps.specs.Arrays.{stateOf, closedUp}
 use Rattle.eigen_tql2_step.specs.Advance.{step}
 use Rattle.eigen_tql2_step.specs.Checks.{checked}
 use Rattle.eigen_steps.specs.declared.EigenRun.{EigenRun}
@@ -39,19 +44,16 @@ endsAs n limit edition r (x, work, result) = (recorded n limit edition r x, work
 
 -- ---- a start
 
--- before the first l, where stop is why it has ended there, if it has
-abbrev pub newRun : ℕ → ℕ → ℕ → ℕ → Answer → EigenRun
-newRun n limit edition stop x = recorded n limit edition (stopping fresh stop) x
-
 -- a run that ends before its first l, with what the one call gives
 abbrev pub endsWith : ℕ → ℕ → ℕ → Answer × Vec × Vec → Outcome
 endsWith n limit edition x = endsAs n limit edition (stopping fresh converged) x
 
--- it goes on, unless mark 0 has ended it
+-- `tred2` of the matrix; the run goes on with e moved up, unless mark 0 has ended it
 unfoldable pub begun : ℕ → ℕ → ℕ → Vec → Outcome
 begun n limit edition a =
-    let (b, work, result) = setting n a in
-    cond (isBad b) (newRun n limit edition converged (marked 0 0 b), work, result) (newRun n limit edition going (done 0), work, result)
+    let (v, d, e) = tred2 n (columns n a, zeros n, zeros n) in
+    let b = mark0 n v d e in
+    cond (isBad b) (endsWith n limit edition (cleared n (marked 0 0 b))) (recorded n limit edition fresh (done 0), movedUp n e, d ++ v)
 
 -- sizes, limit, edition and lengths are as they should be: refusal 7, n = 0, or the run begins
 unfoldable pub startEntered : ℕ → ℕ → ℕ → Vec → Outcome
@@ -74,8 +76,8 @@ started n limit edition a work result =
 -- it goes on, unless mark 1 or the limit has ended it
 unfoldable pub moved : ℕ → ℕ → ℕ → Run → Vec → Vec → Outcome
 moved n limit edition r work result =
-    let (t, work, result) = laidOut (step n limit edition (stateOf n r work result)) in
-    cond (eqb (t .stop) going) (recorded n limit edition t (done (t .count)), work, result) (endsAs n limit edition t (closedUp n t work result))
+    let (t, v, d, e) = step n limit edition (stateOf n r work result) in
+    cond (eqb (t .stop) going) (recorded n limit edition t (done (t .count)), e, d ++ v) (endsAs n limit edition t (closedUp n t e (d ++ v)))
 
 -- a run that has ended stays as it is, and so do the arrays; 6 and 13 change the answer alone
 unfoldable pub stepped : EigenRun → Vec → Vec → Outcome
@@ -93,8 +95,7 @@ finished q work result =
     let x = checked (q .n) (q .limit) (q .edition) (q .run) work result in
     cond (running q)
     (cond (passed x)
-    (cond (ltb (q .run .l) (q .n))
-    (answering q (refused 13 0), work, result)
+    (cond (ltb (q .run .l) (q .n)) (answering q (refused 13 0), work, result)
     (endsAs (q .n) (q .limit) (q .edition) (stopping (q .run) converged) (closedUp (q .n) (q .run) work result)))
     (answering q x, work, result))
     (q, work, result)

@@ -1,26 +1,32 @@
 -- What a start, a step and a finish put together. Laws only.
 use mathlib.Core.Path.{_≡_, refl, ap, _∙_}
 use mathlib.Core.Bool.{Bool, true, false, cond}
+use mathlib.Core.List.{_++_}
 use Prim.Native.Nat.{ℕ, _+_, _*_}
 use lib.Dec.{ltb, eqb}
 use lib.ListN.{length}
 use Rattle.grid.specs.Real.{Vec, zeros}
 use Rattle.leaves.specs.Scan.{isBad}
 use Rattle.leaves.specs.declared.Bad.{Bad}
+use Rattle.leaves.specs.declared.Bad.the-variants.{At, Nowhere}
 use Rattle.answers.specs.Answers.{done, refused, passed, marked}
 use Rattle.answers.specs.declared.Answer.{Answer}
 use Rattle.eigen_tql2_pass.specs.Pass.{going, converged}
 use Rattle.eigen_tql2_pass.specs.declared.Run.{Run}
 use Rattle.eigen_tql2.specs.LStartEnd.{fresh, stopping}
+use Rattle.eigen_tql2.specs.Tql2.{movedUp}
+use Rattle.eigen_tred2_definition.specs.Tred2.{tred2}
+use Rattle.eigen_symmetric_eigen.specs.Layout.{columns}
+use Rattle.eigen_symmetric_eigen.specs.AfterTred2.{mark0}
 use Rattle.eigen_symmetric_eigen.specs.SymmetricEigen.{cleared}
 use Rattle.eigen_tql2_step.specs.Advance.{step}
 use Rattle.eigen_tql2_step.specs.Checks.{checked}
-use Rattle.eigen_steps.specs.Arrays.{setting, stateOf, laidOut, closedUp}
-use Rattle.eigen_steps.specs.ArraysLaws.{stood}
+use Rattle.eigen_steps.specs.Arrays.{stateOf, closedUp}
+use Rattle.eigen_steps.specs.ArraysLaws.{stood, readied, setting, laidOut}
 use Rattle.eigen_steps.specs.declared.arrays.Stand.{Stand}
 use Rattle.eigen_steps.specs.StartLaws.{begunAs}
 use Rattle.eigen_steps.specs.FinishLaws.{standsAs, finishedAs}
-use Rattle.eigen_steps.specs.Steps.{Outcome, recorded, running, answering, endsAs, newRun, endsWith, begun, moved, finished}
+use Rattle.eigen_steps.specs.Steps.{Outcome, recorded, running, answering, endsAs, endsWith, begun, moved, finished}
 use Rattle.eigen_steps.specs.declared.EigenRun.{EigenRun}
 
 -- ---- a step, from what the machine's left
@@ -38,17 +44,26 @@ moved-on n limit edition r t W R w R′ q e g =
 abbrev whole : ℕ → ℕ → ℕ → Stand × Vec × Vec → Outcome
 whole n limit edition (s, work, result) = (recorded n limit edition (s .run) (s .answer), work, result)
 
-pub begun-whole : (n limit edition : ℕ) (s : Stand) (a w r : Vec) → (s, w, r) ≡ begunAs n a → (recorded n limit edition (s .run) (s .answer), w, r) ≡ begun n limit edition a
-unfolding begun begunAs
-begun-whole n limit edition s a w r e = ap (whole n limit edition) e ∙ go (isBad (setting n a .0))
-  where
-    k : Bad × Vec × Vec
-    k = setting n a
+-- before the first l, where stop is why it has ended there, if it has
+abbrev pub newRun : ℕ → ℕ → ℕ → ℕ → Answer → EigenRun
+newRun n limit edition stop x = recorded n limit edition (stopping fresh stop) x
 
-    go : (b : Bool) → whole n limit edition (cond b (stood (stopping fresh converged) (marked 0 0 (k .0)), k .1, k .2) (stood (stopping fresh going) (done 0), k .1, k .2))
-        ≡ cond b (newRun n limit edition converged (marked 0 0 (k .0)), k .1, k .2) (newRun n limit edition going (done 0), k .1, k .2)
-    go true = refl
-    go false = refl
+pub begun-whole : (n limit edition : ℕ) (s : Stand) (a w r : Vec) → (s, w, r) ≡ begunAs n a → (recorded n limit edition (s .run) (s .answer), w, r) ≡ begun n limit edition a
+unfolding begun begunAs setting readied
+begun-whole n limit edition s a w r e = ap (whole n limit edition) e ∙ go (mark0 n (x .0) (x .1) (x .2))
+  where
+    x : Vec × Vec × Vec
+    x = tred2 n (columns n a, zeros n, zeros n)
+
+    set : Bad → Bad × Vec × Vec
+    set b =
+        let y : Bad × Vec × Vec × Vec = cond (isBad b) (b, x .0, x .1, x .2) (b, x .0, x .1, movedUp n (x .2)) in
+        cond (isBad (y .0)) (y .0, zeros n, zeros (n + n * n)) (y .0, y .3, y .2 ++ y .1)
+
+    go : (b : Bad) → whole n limit edition (cond (isBad (set b .0)) (stood (stopping fresh converged) (marked 0 0 (set b .0)), set b .1, set b .2) (stood (stopping fresh going) (done 0), set b .1, set b .2))
+        ≡ cond (isBad b) (endsWith n limit edition (cleared n (marked 0 0 b))) (recorded n limit edition fresh (done 0), movedUp n (x .2), x .1 ++ x .0)
+    go (At i c) = refl
+    go Nowhere = refl
 
 pub finished-whole : (q : EigenRun) (t : Stand) (W R w r : Vec) → (t, w, r) ≡ finishedAs (q .n) (q .limit) (q .edition) (stood (q .run) (q .answer)) W R
     → (recorded (q .n) (q .limit) (q .edition) (t .run) (t .answer), w, r) ≡ finished q W R

@@ -1,6 +1,8 @@
--- Layout: how the matrix comes in and how the vectors go out. LayoutLaws: laws.
+-- Layout: how the matrix comes in. LayoutLaws, RowsLaws: laws on this, and on how the vectors go out.
 pub mod Layout
+pub mod LayoutSteps
 pub mod LayoutLaws
+pub mod RowsLaws
 -- What is handed back. Laws only.
 pub mod ResultLaws
 -- AfterTred2: mark 0, and the run after tred2.

@@ -10,17 +10,17 @@ use borrow.Rule.Slice.PartMut.{midOf, putMid, same-len-mid}
 use lib.ListN.{length, take, drop, length-append, length-drop, length-replicate, replicate-append-replicate, drop-of-length-le}
 use lib.Seq.{take-all, take-at, drop-at, length-take-le}
 use Rattle.grid.specs.Real.{Vec, zero64, zeros}
+use Rattle.leaves.specs.Scan.{byRows}
 use Rattle.answers.specs.Answers.{passed}
 use Rattle.answers.specs.declared.Answer.{Answer}
 use Rattle.eigen_symmetric_eigen.specs.ResultLaws.{laid}
-use Rattle.eigen_symmetric_eigen.specs.Layout.{rows}
 use Rattle.answers.specs.Checks.{editionGood, limitGood, lengths}
 use Rattle.answers.specs.EditionLaws.{edition-lengths}
 use Rattle.eigen_symmetric_eigen.specs.SymmetricEigen.{decomposed, given, cleared, eigenEntered, eigen}
 
 -- after the run: where it is done the vectors stand row by row
 unfoldable pub outward : ℕ → Answer × Vec × Vec × Vec → Answer × Vec × Vec × Vec
-outward n (x, v, d, e) = cond (passed x) (x, rows n v, d, e) (x, v, d, e)
+outward n (x, v, d, e) = cond (passed x) (x, byRows n v, d, e) (x, v, d, e)
 
 -- ---- a call that passes its checks
 
@@ -65,7 +65,7 @@ unfolding outward given
 rows-given n y = go (passed (y .0)) refl
   where
     go : (b : Bool) → passed (y .0) ≡ b
-        → fromRows n (cond (passed (y .0)) (y .0, rows n (y .1), y .2, y .3) y) ≡ cond (passed (y .0)) (y .0, zeros n, y .2 ++ rows n (y .1)) (cleared n (y .0))
+        → fromRows n (cond (passed (y .0)) (y .0, byRows n (y .1), y .2, y .3) y) ≡ cond (passed (y .0)) (y .0, zeros n, y .2 ++ byRows n (y .1)) (cleared n (y .0))
     go true t = simp t
     go false t = simp t
 
@@ -111,12 +111,12 @@ module _ (n : ℕ) (R W : Vec) (small : n ≤ 256) (w : W ≡ zeros n) (r : R �
 
   pub run-whole : (limit edition : ℕ) (a v d e : Vec) (x : Answer) (t : Answer × Vec × Vec)
       → length v ≡ length (midOf n (length R - n) R) → length d ≡ length (take n (zeros 256)) → length e ≡ length W
-      → _≡_ {A = Answer × Vec × Vec × Vec} (x, v, d, e) (outward n (decomposed n limit edition a (midOf n (length R - n) R, take n (zeros 256), W)))
+      → _≡_ {A = Answer × Vec × Vec × Vec} (x, v, d, e) (outward n (decomposed n limit edition a (take n (zeros 256), W)))
       → t ≡ laid x (take n (d ++ drop n (zeros 256))) e (putMid n (length R - n) R v)
-      → t ≡ given n (decomposed n limit edition a (zeros (n * n), zeros n, zeros n))
+      → t ≡ given n (decomposed n limit edition a (zeros n, zeros n))
   run-whole limit edition a v d e x t lv ld le s g =
-      let y : Answer × Vec × Vec × Vec = decomposed n limit edition a (zeros (n * n), zeros n, zeros n) in
+      let y : Answer × Vec × Vec × Vec = decomposed n limit edition a (zeros n, zeros n) in
       let k : length d ≡ n = ld ∙ d-length in
       g
       ∙ ap (λ (z : Vec). laid x z e (putMid n (length R - n) R v)) (take-at d (drop n (zeros 256)) n k)
-      ∙ put-together n y x v d e e (putMid n (length R - n) R v) k (le ∙ e-length) (v-back v lv) (behind-put n R v front-fits) (rw (v-lent, zeros-take n 256 small, w) at s)
+      ∙ put-together n y x v d e e (putMid n (length R - n) R v) k (le ∙ e-length) (v-back v lv) (behind-put n R v front-fits) (rw (zeros-take n 256 small, w) at s)

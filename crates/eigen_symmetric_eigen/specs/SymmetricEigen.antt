@@ -5,19 +5,19 @@ use Prim.Native.Nat.{ℕ, _+_, _*_}
 use lib.Dec.{ltb, eqb}
 use lib.ListN.{length}
 use Rattle.grid.specs.Real.{Vec, zeros}
-use Rattle.leaves.specs.Scan.{firstBadLower}
+use Rattle.leaves.specs.Scan.{firstBadLower, byRows}
 use Rattle.answers.specs.Answers.{done, refused, passed, refusal7}
 use Rattle.answers.specs.declared.Answer.{Answer}
 use Rattle.answers.specs.Checks.{limitGood, fittingEdition}
-use Rattle.eigen_symmetric_eigen.specs.Layout.{columns, rows}
+use Rattle.eigen_symmetric_eigen.specs.Layout.{columns}
 use Rattle.eigen_tred2_definition.specs.Tred2.{tred2}
 use Rattle.eigen_symmetric_eigen.specs.AfterTred2.{afterTred}
 
--- ---- the run: v, d and e as they are lent, and afterwards the answer, v, d and e
+-- ---- the run: d and e as they are lent, and afterwards the answer, v, d and e
 
--- the matrix a copied into v, `tred2`, then mark 0 and `tql2`
-unfoldable pub decomposed : ℕ → ℕ → ℕ → Vec → Vec × Vec × Vec → Answer × Vec × Vec × Vec
-decomposed n limit edition a (v, d, e) = afterTred n limit edition (tred2 n (columns n a v, d, e))
+-- the matrix a column by column, `tred2`, then mark 0 and `tql2`
+unfoldable pub decomposed : ℕ → ℕ → ℕ → Vec → Vec × Vec → Answer × Vec × Vec × Vec
+decomposed n limit edition a (d, e) = afterTred n limit edition (tred2 n (columns n a, d, e))
 
 -- ---- what is lent afterwards
 
@@ -27,7 +27,7 @@ cleared n x = (x, zeros n, zeros (n + n * n))
 
 -- on 0 the values come first in the result, and the vectors row by row behind them
 unfoldable pub given : ℕ → Answer × Vec × Vec × Vec → Answer × Vec × Vec
-given n (x, v, d, e) = cond (passed x) (x, zeros n, d ++ rows n v) (cleared n x)
+given n (x, v, d, e) = cond (passed x) (x, zeros n, d ++ byRows n v) (cleared n x)
 
 -- ---- the call
 
@@ -36,7 +36,7 @@ unfoldable pub eigenEntered : ℕ → ℕ → ℕ → Vec → Answer × Vec × V
 eigenEntered n limit edition a =
     let x = refusal7 (firstBadLower n a) in
     cond (passed x)
-    (cond (eqb n 0) (cleared n (done 0)) (given n (decomposed n limit edition a (zeros (n * n), zeros n, zeros n))))
+    (cond (eqb n 0) (cleared n (done 0)) (given n (decomposed n limit edition a (zeros n, zeros n))))
     (cleared n x)
 
 -- 1, 2, 12 and 6 leave work and result as they were

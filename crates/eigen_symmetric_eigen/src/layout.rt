@@ -2,7 +2,9 @@
 ghost use mathlib.Core.Path.{_≡_};
 ghost use Prim.Native.Nat.{_*_, _<_};
 ghost use lib.ListN.{length};
-ghost use Rattle.eigen_symmetric_eigen.specs.Layout.{copyRow, columns, mirrorRow, rows};
+ghost use Rattle.leaves.specs.Scan.{byRows};
+ghost use Rattle.eigen_symmetric_eigen.specs.Layout.{columns};
+ghost use Rattle.eigen_symmetric_eigen.specs.LayoutSteps.{copyRow, transposeRow};
 use grid::at;
 use grid::entry;
 use grid::put;
@@ -20,7 +22,7 @@ fn copy_row(n: usize, i: usize, a: &[f64], v: &mut [f64])
 // The whole matrix, which stands row by row, into v, which stands column by column.
 pub fn columns(n: usize, a: &[f64], v: &mut [f64])
     requires { ⌜ (length (now a) ≡ n * n) × (length (now v) ≡ n * n) ⌝ }
-    ensures { λ _. ⌜ now (v .exit) ≡ columns n (now (a .entry)) (now (v .entry)) ⌝ }
+    ensures { λ _. ⌜ now (v .exit) ≡ columns n (now (a .entry)) ⌝ }
 {
     for i in 0..n {
         copy_row(n, i, a, v);
@@ -28,9 +30,9 @@ pub fn columns(n: usize, a: &[f64], v: &mut [f64])
 }
 
 // The cells of row i left of the diagonal change places with their mirrors.
-fn mirror_row(n: usize, i: usize, v: &mut [f64])
+fn transpose_row(n: usize, i: usize, v: &mut [f64])
     requires { ⌜ (i < n) × (length (now v) ≡ n * n) ⌝ }
-    ensures { λ _. ⌜ now (v .exit) ≡ mirrorRow n i (now (v .entry)) ⌝ }
+    ensures { λ _. ⌜ now (v .exit) ≡ transposeRow n i (now (v .entry)) ⌝ }
 {
     for j in 0..i {
         let x = at(v, n, n, i, j);
@@ -43,9 +45,9 @@ fn mirror_row(n: usize, i: usize, v: &mut [f64])
 // v, which stands column by column, comes to stand row by row.
 pub fn rows(n: usize, v: &mut [f64])
     requires { ⌜ length (now v) ≡ n * n ⌝ }
-    ensures { λ _. ⌜ now (v .exit) ≡ rows n (now (v .entry)) ⌝ }
+    ensures { λ _. ⌜ now (v .exit) ≡ byRows n (now (v .entry)) ⌝ }
 {
     for i in 0..n {
-        mirror_row(n, i, v);
+        transpose_row(n, i, v);
     }
 }

@@ -36,7 +36,7 @@ fn decompose(
     e: &mut [f64],
 ) -> Answer
     requires { ⌜ (0 < n) × (n ≤ 256) × (limit ≤ 60) × (length (now a) ≡ n * n) × Sized n (now v) (now d) (now e) ⌝ }
-    ensures { λ r. ⌜ (r, now (v .exit), now (d .exit), now (e .exit)) ≡ decomposed n limit edition (now (a .entry)) (now (v .entry), now (d .entry), now (e .entry)) ⌝ }
+    ensures { λ r. ⌜ (r, now (v .exit), now (d .exit), now (e .exit)) ≡ decomposed n limit edition (now (a .entry)) (now (d .entry), now (e .entry)) ⌝ }
 {
     columns(n, a, v);
     tred2(n, v, d, e);
@@ -54,7 +54,7 @@ fn decompose_rows(
     e: &mut [f64],
 ) -> Answer
     requires { ⌜ (0 < n) × (n ≤ 256) × (limit ≤ 60) × (length (now a) ≡ n * n) × Sized n (now v) (now d) (now e) ⌝ }
-    ensures { λ r. ⌜ (r, now (v .exit), now (d .exit), now (e .exit)) ≡ outward n (decomposed n limit edition (now (a .entry)) (now (v .entry), now (d .entry), now (e .entry))) ⌝ }
+    ensures { λ r. ⌜ (r, now (v .exit), now (d .exit), now (e .exit)) ≡ outward n (decomposed n limit edition (now (a .entry)) (now (d .entry), now (e .entry))) ⌝ }
 {
     let r = decompose(n, limit, edition, a, v, d, e);
     if r.answer != 0 {
@@ -74,7 +74,7 @@ fn run(
     result: &mut [f64],
 ) -> Answer
     requires { ⌜ (0 < n) × (n ≤ 256) × (limit ≤ 60) × (length (now a) ≡ n * n) × (now work ≡ zeros n) × (now result ≡ zeros (n + n * n)) ⌝ }
-    ensures { λ r. ⌜ (r, now (work .exit), now (result .exit)) ≡ given n (decomposed n limit edition (now (a .entry)) (zeros (n * n), zeros n, zeros n)) ⌝ }
+    ensures { λ r. ⌜ (r, now (work .exit), now (result .exit)) ≡ given n (decomposed n limit edition (now (a .entry)) (zeros n, zeros n)) ⌝ }
 {
     let mut d = [0.0f64; LARGEST];
     let r = decompose_rows(n, limit, edition, a, &mut result[n..], &mut d[..n], work);

@@ -14,7 +14,7 @@ use Rattle.eigen_symmetric_eigen.specs.Layout.{columns}
 pub record Computed (n edition : ℕ) (a values vectors : Vec) : Type 0 where
   pub some : 0 < n
   pub last : Vec × Vec × Vec
-  pub ran : Tql2 n edition (tred2 n (columns n a (zeros (n * n)), zeros n, zeros n)) last
+  pub ran : Tql2 n edition (tred2 n (columns n a, zeros n, zeros n)) last
   pub values-are : let (v, d, e) = last in values ≡ d
   pub long : length vectors ≡ n * n
   pub vectors-are : let (v, d, e) = last in (i j : ℕ) → i < n → j < n → entry vectors n i j ≡ at2 v n i j

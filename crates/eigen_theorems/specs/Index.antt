@@ -11,7 +11,7 @@ use Rattle.leaves.specs.Scan.{classOf}
 use Rattle.answers.specs.Answers.{answered}
 use Rattle.answers.specs.Index.{Class}
 use Rattle.answers.specs.declared.Answer.{Answer}
-use Rattle.eigen_theorems.specs.Tql2Outcome.{FirstIn, list1, list2, Told, well, at-mark2, at-mark1, at-limit}
+use Rattle.eigen_theorems.specs.Tql2Outcome.{FirstIn, list1, list2, RunGives, well, at-mark2, at-mark1, at-limit}
 use Rattle.eigen_theorems.specs.Tql2OutcomeLaws.{first-class, mark1-sees}
 use Rattle.eigen_symmetric_eigen.specs.SymmetricEigen.{eigen}
 use Rattle.eigen_theorems.specs.Outcome.{Outcome, reduced, list0, Says, nothing, at-mark0, runs, Looked, after-tred, after-pass, after-last, Infinite, Points}
@@ -46,33 +46,33 @@ module _ (n limit edition : ℕ) (a : Vec) where
         before = f .before;
       }
 
-  told-points : (o : Answer × Vec × Vec × Vec) → Told n limit edition (reduced n a) o → Class (o .0 .answer) → Points n limit edition a (o .0)
-  told-points o (well r w) u = absurd (above-zero 0 u refl)
-  told-points o (at-mark2 {c = c} {b = b} {i = i} {y = y} r f) u = first-points (list2 n y) b 2 i c f (after-last r)
-  told-points o (at-mark1 {l = l} {c = c} {k = k} {b = b} {i = i} {z = z} h r t) u = first-points (list1 z) b 1 i (c + k) (mark1-sees n limit edition l t) (after-pass h r t)
-  told-points o (at-limit h r t) u = absurd (not-nine 9 u refl)
+  gives-points : (o : Answer × Vec × Vec × Vec) → RunGives n limit edition (reduced n a) o → Class (o .0 .answer) → Points n limit edition a (o .0)
+  gives-points o (well r w) u = absurd (above-zero 0 u refl)
+  gives-points o (at-mark2 {c = c} {b = b} {i = i} {y = y} r f) u = first-points (list2 n y) b 2 i c f (after-last r)
+  gives-points o (at-mark1 {l = l} {c = c} {k = k} {b = b} {i = i} {z = z} h r t) u = first-points (list1 z) b 1 i (c + k) (mark1-sees n limit edition l t) (after-pass h r t)
+  gives-points o (at-limit h r t) u = absurd (not-nine 9 u refl)
 
   says-points : (o : Outcome) → Says n limit edition a o → Class (o .0 .answer) → Points n limit edition a (o .0)
   says-points o (nothing z) u = absurd (above-zero 0 u refl)
   says-points o (at-mark0 {b = b} {i = i} h) u = first-points (list0 n (reduced n a)) b 0 i 0 (h .seen) after-tred
   says-points o (runs {o = f} z s t) u =
       let g = given-answer n f in
-      subst (Points n limit edition a) (sym g) (told-points f t (subst (λ (x : Answer). Class (x .answer)) g u))
+      subst (Points n limit edition a) (sym g) (gives-points f t (subst (λ (x : Answer). Class (x .answer)) g u))
 
   -- ---- every other answer
 
-  told-index : (o : Answer × Vec × Vec × Vec) → Told n limit edition (reduced n a) o → (Class (o .0 .answer) → ⊥) → o .0 .index ≡ 0
-  told-index o (well r w) u = refl
-  told-index o (at-mark2 {b = b} {i = i} {y = y} r f) u = absurd (u (first-class (list2 n y) b i f))
-  told-index o (at-mark1 {l = l} {b = b} {i = i} {z = z} h r t) u = absurd (u (first-class (list1 z) b i (mark1-sees n limit edition l t)))
-  told-index o (at-limit h r t) u = refl
+  gives-index : (o : Answer × Vec × Vec × Vec) → RunGives n limit edition (reduced n a) o → (Class (o .0 .answer) → ⊥) → o .0 .index ≡ 0
+  gives-index o (well r w) u = refl
+  gives-index o (at-mark2 {b = b} {i = i} {y = y} r f) u = absurd (u (first-class (list2 n y) b i f))
+  gives-index o (at-mark1 {l = l} {b = b} {i = i} {z = z} h r t) u = absurd (u (first-class (list1 z) b i (mark1-sees n limit edition l t)))
+  gives-index o (at-limit h r t) u = refl
 
   says-index : (o : Outcome) → Says n limit edition a o → (Class (o .0 .answer) → ⊥) → o .0 .index ≡ 0
   says-index o (nothing z) u = refl
   says-index o (at-mark0 {b = b} {i = i} h) u = absurd (u (first-class (list0 n (reduced n a)) b i (h .seen)))
   says-index o (runs {o = f} z s t) u =
       let g = given-answer n f in
-      ap (λ (x : Answer). x .index) g ∙ told-index f t (λ v. u (subst (λ (x : Answer). Class (x .answer)) (sym g) v))
+      ap (λ (x : Answer). x .index) g ∙ gives-index f t (λ v. u (subst (λ (x : Answer). Class (x .answer)) (sym g) v))
 
 -- **index-points**: on 8 and 10 the number at the index of what the place's mark looks at is infinite, or NaN, and every number before it is finite
 pub index-points : (n limit edition : ℕ) (a work result : Vec) → Class (eigen n limit edition a work result .0 .answer) → Points n limit edition a (eigen n limit edition a work result .0)

@@ -1,4 +1,4 @@
--- The run of `tql2` told as document 000's own loops, and what follows of its limit, its lengths and its sort.
+-- The run of `tql2` as document 000's own loops, and what follows of its limit, its lengths and its sort.
 pub mod Tql2Limit
 pub mod Tql2Invariant
 pub mod Tql2Document
@@ -10,7 +10,6 @@ pub mod Tql2Marks
 pub mod Permutation
 pub mod Tql2SortLaws
 -- `symmetric_eigen` beside document 000, and where each of its numbers is given.
-pub mod RowsLaws
 pub mod Document
 pub mod DocumentLaws
 pub mod Outcome

@@ -17,7 +17,7 @@ use Rattle.answers.specs.declared.Answer.{Answer}
 use Rattle.eigen_tred2_definition.specs.Tred2.{tred2}
 use Rattle.eigen_tql2.specs.Sort.{sorted}
 use Rattle.eigen_theorems.specs.Tql2Document.{Carried, begun}
-use Rattle.eigen_theorems.specs.Tql2Outcome.{FirstIn, list1, list2, End, bad, Turned, Ran, Whole, Told}
+use Rattle.eigen_theorems.specs.Tql2Outcome.{FirstIn, list1, list2, End, bad, Turned, Ran, Whole, RunGives}
 use Rattle.eigen_theorems.specs.Permutation.{Permutation}
 use Rattle.eigen_symmetric_eigen.specs.Layout.{columns}
 use Rattle.eigen_symmetric_eigen.specs.SymmetricEigen.{cleared, given, eigen}
@@ -51,7 +51,7 @@ pub record Taken (n limit edition : ℕ) (a work result : Vec) : Type 0 where
 
 -- v, d and e after tred2
 abbrev pub reduced : ℕ → Vec → Vec × Vec × Vec
-reduced n a = tred2 n (columns n a (zeros (n * n)), zeros n, zeros n)
+reduced n a = tred2 n (columns n a, zeros n, zeros n)
 
 -- the list that mark 0 looks at: d, then e, then v row by row
 abbrev pub list0 : ℕ → Vec × Vec × Vec → Vec
@@ -107,7 +107,7 @@ pub record Broken2 (n limit edition : ℕ) (a : Vec) (b i c : ℕ) : Type 0 wher
 pub data Says (n limit edition : ℕ) (a : Vec) : Outcome → Type 0 where
   nothing : n ≡ 0 → Says n limit edition a (cleared n (done 0))
   at-mark0 : {b i : ℕ} → Broken0 n a b i → Says n limit edition a (cleared n (answered b 0 i 0))
-  runs : {o : Answer × Vec × Vec × Vec} → 0 < n → Reduced (reduced n a) → Told n limit edition (reduced n a) o → Says n limit edition a (given n o)
+  runs : {o : Answer × Vec × Vec × Vec} → 0 < n → Reduced (reduced n a) → RunGives n limit edition (reduced n a) o → Says n limit edition a (given n o)
 
 -- a done outcome, with its values and its vectors row by row behind them
 abbrev pub finishedWith : ℕ → ℕ → Vec → Vec → Outcome

@@ -12,7 +12,7 @@ use lib.ListN.{length, length-replicate}
 use Rattle.grid.specs.Real.{Vec, at, zero64, zeros}
 use Rattle.leaves.specs.Scan.{byRows, isBad}
 use Rattle.leaves.specs.ScanLaws.{firstBad-none, scan-first}
-use Rattle.leaves.specs.FiniteLaws.{both-finite, finite-both, cells-finite, finite-rows, none-lower}
+use Rattle.leaves.specs.FiniteLaws.{both-finite, finite-both, by-rows-at, by-rows-long, cells-finite, finite-rows, none-lower}
 use Rattle.leaves.specs.declared.Bad.{Bad}
 use Rattle.leaves.specs.declared.Bad.the-variants.{At, Nowhere}
 use Rattle.answers.specs.Answers.{answered, done, passed, marked}
@@ -24,28 +24,25 @@ use Rattle.eigen_tql2.specs.Sort.{sorted}
 use Rattle.eigen_tql2.specs.Tql2.{tql2}
 use Rattle.eigen_theorems.specs.Tql2Document.{Carried, begun}
 use Rattle.eigen_theorems.specs.Tql2Lengths.{tql2-square}
-use Rattle.eigen_theorems.specs.Tql2Outcome.{FirstIn, list1, list2, bad, used, Turned, Ran, Whole, Told, well, at-mark2, at-mark1, at-limit}
-use Rattle.eigen_theorems.specs.Tql2OutcomeLaws.{first-class, class-above, none-first, one-first, mark1-sees, told-once, ran-document}
-use Rattle.eigen_theorems.specs.Tql2Marks.{told}
+use Rattle.eigen_theorems.specs.Tql2Outcome.{FirstIn, list1, list2, bad, used, Turned, Ran, Whole, RunGives, well, at-mark2, at-mark1, at-limit}
+use Rattle.eigen_theorems.specs.Tql2OutcomeLaws.{first-class, class-above, none-first, one-first, mark1-sees, gives-once, ran-document}
+use Rattle.eigen_theorems.specs.Tql2Marks.{run-gives}
 use Rattle.eigen_symmetric_eigen.specs.AfterTred2.{mark0, afterTred}
 use Rattle.eigen_symmetric_eigen.specs.SymmetricEigen.{decomposed, cleared, given, eigenEntered, eigen}
 use Rattle.eigen_symmetric_eigen.specs.PartsLaws.{checks-pass}
-use Rattle.eigen_symmetric_eigen.specs.Layout.{rows}
 use Rattle.eigen_theorems.specs.Outcome.{Outcome, Fit, Taken, reduced, list0, Reduced, Reached, Done, empty, worked, Halted, Broken0, Broken2, Says, nothing, at-mark0, runs, finishedWith, Some}
 use Rattle.eigen_theorems.specs.Document as Doc
-use Rattle.eigen_theorems.specs.DocumentLaws.{same-vectors}
-use Rattle.eigen_symmetric_eigen.specs.LayoutLaws.{columns-long}
-use Rattle.eigen_theorems.specs.RowsLaws.{rows-long, rows-entry}
+use Rattle.eigen_symmetric_eigen.specs.LayoutLaws.{same-entries, columns-long}
 
 -- ---- the checks
 
 pub enters : (n limit edition : ℕ) (a work result : Vec) → Fit n limit edition a work result → eigen n limit edition a work result ≡ eigenEntered n limit edition a
 enters n limit edition a work result f = checks-pass n limit edition a work result (f .small) (f .least) (f .most) (right-edition edition (f .choice)) (f .square) (f .works) (f .room)
 
--- ---- the outcome, told
+-- ---- the outcome that the run gives
 
 pub square : (n : ℕ) (a : Vec) → length (reduced n a .0) ≡ n * n
-square n a = tred2-square n _ ∙ columns-long n a (zeros (n * n)) (length-replicate (n * n) zero64)
+square n a = tred2-square n _ ∙ columns-long n a
 
 pub diagonal : (n : ℕ) (a : Vec) → length (reduced n a .1) ≡ n
 diagonal n a = tred2-diagonal n _ ∙ length-replicate n zero64
@@ -81,7 +78,7 @@ says-once n limit edition a o p (at-mark0 {b = s} {i = i} b) (at-mark0 {b = t} {
 says-once n limit edition a o p (at-mark0 b) (runs y s t) = absurd (not-reduced n a b s)
 says-once n limit edition a o p (runs y s t) (nothing z) = absurd (omega arith)
 says-once n limit edition a o p (runs y s t) (at-mark0 b) = absurd (not-reduced n a b s)
-says-once n limit edition a o p (runs y s t) (runs z r u) = ap (given n) (told-once n limit edition (reduced n a) _ _ t u)
+says-once n limit edition a o p (runs y s t) (runs z r u) = ap (given n) (gives-once n limit edition (reduced n a) _ _ t u)
 
 pub says : (n limit edition : ℕ) (a work result : Vec) → Taken n limit edition a work result → Says n limit edition a (eigen n limit edition a work result)
 unfolding eigenEntered decomposed afterTred given
@@ -104,13 +101,13 @@ says n limit edition a work result f = subst (Says n limit edition a) (sym (ente
 
     -- a class is not 0, so it refuses
     refuses : (b i : ℕ) → FirstIn (list0 n x) b i → given n (answered b 0 i 0, x .0, x .1, x .2) ≡ cleared n (answered b 0 i 0)
-    refuses b i s = ap (λ (t : Bool). cond t (answered b 0 i 0, zeros n, x .1 ++ rows n (x .0)) (cleared n (answered b 0 i 0))) (ne-eqb b 0 (λ e. omega (arith, class-above (list0 n x) b i s)))
+    refuses b i s = ap (λ (t : Bool). cond t (answered b 0 i 0, zeros n, x .1 ++ byRows n (x .0)) (cleared n (answered b 0 i 0))) (ne-eqb b 0 (λ e. omega (arith, class-above (list0 n x) b i s)))
 
     then : 0 < n → (b : Bad) → mark0 n (x .0) (x .1) (x .2) ≡ b → Says n limit edition a (given n (after b))
     then z (At i b) e =
         let s = mark0-first n a b i e in
         subst (Says n limit edition a) (sym (refuses b i s)) (at-mark0 (record { some = z; seen = s }))
-    then z Nowhere e = runs z (mark0-reduced n a e) (told n limit edition x z (square n a) (beside n a))
+    then z Nowhere e = runs z (mark0-reduced n a e) (run-gives n limit edition x z (square n a) (beside n a))
 
     go : (b : Bool) → eqb n 0 ≡ b → Says n limit edition a body
     go true e = rw e (nothing (eqb-true n 0 e))
@@ -122,7 +119,7 @@ pub given-answer : (n : ℕ) (x : Answer × Vec × Vec × Vec) → given n x .0 
 unfolding given
 given-answer n x = go (passed (x .0))
   where
-    go : (b : Bool) → cond b (x .0, zeros n, x .2 ++ rows n (x .1)) (cleared n (x .0)) .0 ≡ x .0
+    go : (b : Bool) → cond b (x .0, zeros n, x .2 ++ byRows n (x .1)) (cleared n (x .0)) .0 ≡ x .0
     go true = refl
     go false = refl
 
@@ -133,7 +130,7 @@ module _ (n limit edition : ℕ) (a : Vec) where
       tql2-square n edition (reduced n a) (sorted n (y .v, y .d) .0, sorted n (y .v, y .d) .1, y .e) (record { last = y; ran = ran-document n limit edition r; values = refl }) ∙ square n a
 
   run-worked : 0 < n → Reduced (reduced n a) → {c : ℕ} {y : Carried} → Ran n limit edition (begun n (reduced n a)) n c y → Whole y
-      → Reached n limit edition a c (sorted n (y .v, y .d) .1) (rows n (sorted n (y .v, y .d) .0))
+      → Reached n limit edition a c (sorted n (y .v, y .d) .1) (byRows n (sorted n (y .v, y .d) .0))
   run-worked z s {y = y} r w =
       let l = sorted-square z r in
       record {
@@ -143,28 +140,28 @@ module _ (n limit edition : ℕ) (a : Vec) where
         ran = r;
         whole = w;
         values-are = refl;
-        long = rows-long n _ l;
-        vectors-are = λ i j p q. rows-entry n _ i j l p q;
+        long = by-rows-long n n _ l;
+        vectors-are = by-rows-at n n _ l;
       }
 
-  told-done : (c : ℕ) (o : Answer × Vec × Vec × Vec) → 0 < n → Reduced (reduced n a) → Told n limit edition (reduced n a) o → o .0 ≡ done c → Some n limit edition a c (given n o .2)
+  gives-done : (c : ℕ) (o : Answer × Vec × Vec × Vec) → 0 < n → Reduced (reduced n a) → RunGives n limit edition (reduced n a) o → o .0 ≡ done c → Some n limit edition a c (given n o .2)
   unfolding given
-  told-done c o z s (well {c = b} {y = y} r w) q =
+  gives-done c o z s (well {c = b} {y = y} r w) q =
       record {
         values = sorted n (y .v, y .d) .1;
-        vectors = rows n (sorted n (y .v, y .d) .0);
+        vectors = byRows n (sorted n (y .v, y .d) .0);
         exactly = worked (run-worked z s (subst (λ (k : ℕ). Ran n limit edition (begun n (reduced n a)) n k y) (ap (λ (t : Answer). t .count) q) r) w);
         whole = refl;
       }
-  told-done c o z s (at-mark2 {b = b} {i = i} {y = y} r f) q = absurd (omega (arith, class-above (list2 n y) b i f, ap (λ (t : Answer). t .answer) q))
-  told-done c o z s (at-mark1 {l = l} {b = b} {i = i} {z = y} h r t) q = absurd (omega (arith, class-above (list1 y) b i (mark1-sees n limit edition l t), ap (λ (t : Answer). t .answer) q))
-  told-done c o z s (at-limit h r t) q = absurd (omega (arith, ap (λ (t : Answer). t .answer) q))
+  gives-done c o z s (at-mark2 {b = b} {i = i} {y = y} r f) q = absurd (omega (arith, class-above (list2 n y) b i f, ap (λ (t : Answer). t .answer) q))
+  gives-done c o z s (at-mark1 {l = l} {b = b} {i = i} {z = y} h r t) q = absurd (omega (arith, class-above (list1 y) b i (mark1-sees n limit edition l t), ap (λ (t : Answer). t .answer) q))
+  gives-done c o z s (at-limit h r t) q = absurd (omega (arith, ap (λ (t : Answer). t .answer) q))
 
   pub says-done : (c : ℕ) (o : Outcome) → Says n limit edition a o → o .0 ≡ done c → Some n limit edition a c (o .2)
   says-done c o (nothing z) q =
       record { values = []; vectors = []; exactly = empty z (sym (ap (λ (t : Answer). t .count) q)) refl refl; whole = ap (λ (k : ℕ). zeros (k + k * k)) z }
   says-done c o (at-mark0 {b = b} {i = i} h) q = absurd (omega (arith, class-above (list0 n (reduced n a)) b i (h .seen), ap (λ (t : Answer). t .answer) q))
-  says-done c o (runs {o = p} z s t) q = told-done c p z s t (sym (given-answer n p) ∙ q)
+  says-done c o (runs {o = p} z s t) q = gives-done c p z s t (sym (given-answer n p) ∙ q)
 
   done-says : (c : ℕ) (values vectors : Vec) → Done n limit edition a c values vectors → Says n limit edition a (finishedWith n c values vectors)
   unfolding given
@@ -175,12 +172,12 @@ module _ (n limit edition : ℕ) (a : Vec) where
       whole = ap (λ (k : ℕ). zeros (k + k * k)) z ∙ (λ i. sym p i ++ sym q i)
   done-says c values vectors (worked w) = subst (Says n limit edition a) (λ i. (done c, zeros n, sym (w .values-are) i ++ sym vectors-are i)) got
     where
-      vectors-are : vectors ≡ rows n (sorted n (w .last .v, w .last .d) .0)
+      vectors-are : vectors ≡ byRows n (sorted n (w .last .v, w .last .d) .0)
       vectors-are =
           let l = sorted-square (w .some) (w .ran) in
-          same-vectors n vectors _ (w .some) (w .long) (rows-long n _ l) (λ i j p q. w .vectors-are i j p q ∙ sym (rows-entry n _ i j l p q))
+          same-entries n vectors _ (w .long) (by-rows-long n n _ l) (λ i j p q. w .vectors-are i j p q ∙ sym (by-rows-at n n _ l i j p q))
 
-      got : Says n limit edition a (finishedWith n c (sorted n (w .last .v, w .last .d) .1) (rows n (sorted n (w .last .v, w .last .d) .0)))
+      got : Says n limit edition a (finishedWith n c (sorted n (w .last .v, w .last .d) .1) (byRows n (sorted n (w .last .v, w .last .d) .0)))
       got = runs (w .some) (w .sound) (well (w .ran) (w .whole))
 
 -- **done-exactly**: the answer is 0 with count c exactly where document 000's loops, refined so, come to their end after c passes
@@ -205,15 +202,15 @@ pub not-nine : (b : ℕ) → Class b → b ≡ 9 → ⊥
 not-nine b c e = ⊎-elim (λ q. omega arith) (λ q. omega arith) c
 
 module _ (n limit edition : ℕ) (a : Vec) where
-  told-limit : (l c : ℕ) (o : Answer × Vec × Vec × Vec) → 0 < n → Reduced (reduced n a) → Told n limit edition (reduced n a) o → o .0 ≡ answered 9 l 0 c → Halted n limit edition a used l c
-  told-limit l c o z s (well r w) q = absurd (omega (arith, ap (λ (t : Answer). t .answer) q))
-  told-limit l c o z s (at-mark2 {b = b} {i = i} {y = y} r f) q = absurd (not-nine b (first-class (list2 n y) b i f) (ap (λ (t : Answer). t .answer) q))
-  told-limit l c o z s (at-mark1 {l = k} {b = b} {i = i} {z = y} h r t) q = absurd (not-nine b (first-class (list1 y) b i (mark1-sees n limit edition k t)) (ap (λ (t : Answer). t .answer) q))
-  told-limit l c o z s (at-limit {l = k} {c = b} {k = j} {y = y} {z = w} h r t) q =
+  gives-limit : (l c : ℕ) (o : Answer × Vec × Vec × Vec) → 0 < n → Reduced (reduced n a) → RunGives n limit edition (reduced n a) o → o .0 ≡ answered 9 l 0 c → Halted n limit edition a used l c
+  gives-limit l c o z s (well r w) q = absurd (omega (arith, ap (λ (t : Answer). t .answer) q))
+  gives-limit l c o z s (at-mark2 {b = b} {i = i} {y = y} r f) q = absurd (not-nine b (first-class (list2 n y) b i f) (ap (λ (t : Answer). t .answer) q))
+  gives-limit l c o z s (at-mark1 {l = k} {b = b} {i = i} {z = y} h r t) q = absurd (not-nine b (first-class (list1 y) b i (mark1-sees n limit edition k t)) (ap (λ (t : Answer). t .answer) q))
+  gives-limit l c o z s (at-limit {l = k} {c = b} {k = j} {y = y} {z = w} h r t) q =
       subst (λ (k : ℕ). Halted n limit edition a used k c) (ap (λ (t : Answer). t .place) q)
       (record { some = z; sound = s; below = h; count = b; before = y; ran = r; passes = j; after = w; turned = t; in-all = ap (λ (t : Answer). t .count) q })
 
-  told-mark1 : (b i c : ℕ) (o : Answer × Vec × Vec × Vec) → Class b → 0 < n → Reduced (reduced n a) → Told n limit edition (reduced n a) o → o .0 ≡ answered b 1 i c
+  told-mark1 : (b i c : ℕ) (o : Answer × Vec × Vec × Vec) → Class b → 0 < n → Reduced (reduced n a) → RunGives n limit edition (reduced n a) o → o .0 ≡ answered b 1 i c
       → (l : ℕ) × Halted n limit edition a (bad b i) l c
   told-mark1 b i c o u z s (well r w) q = absurd (above-zero b u (sym (ap (λ (t : Answer). t .answer) q)))
   told-mark1 b i c o u z s (at-mark2 r f) q = absurd (omega (arith, ap (λ (t : Answer). t .place) q))
@@ -234,7 +231,7 @@ module _ (n limit edition : ℕ) (a : Vec) where
   )
   told-mark1 b i c o u z s (at-limit h r t) q = absurd (not-nine b u (sym (ap (λ (t : Answer). t .answer) q)))
 
-  told-mark2 : (b i c : ℕ) (o : Answer × Vec × Vec × Vec) → Class b → 0 < n → Reduced (reduced n a) → Told n limit edition (reduced n a) o → o .0 ≡ answered b 2 i c → Broken2 n limit edition a b i c
+  told-mark2 : (b i c : ℕ) (o : Answer × Vec × Vec × Vec) → Class b → 0 < n → Reduced (reduced n a) → RunGives n limit edition (reduced n a) o → o .0 ≡ answered b 2 i c → Broken2 n limit edition a b i c
   told-mark2 b i c o u z s (well r w) q = absurd (above-zero b u (sym (ap (λ (t : Answer). t .answer) q)))
   told-mark2 b i c o u z s (at-mark2 {y = y} r f) q =
       record {
@@ -247,18 +244,18 @@ module _ (n limit edition : ℕ) (a : Vec) where
   told-mark2 b i c o u z s (at-mark1 h r t) q = absurd (omega (arith, ap (λ (t : Answer). t .place) q))
   told-mark2 b i c o u z s (at-limit h r t) q = absurd (not-nine b u (sym (ap (λ (t : Answer). t .answer) q)))
 
-  told-place : (b i c : ℕ) (o : Answer × Vec × Vec × Vec) → Class b → Told n limit edition (reduced n a) o → o .0 ≡ answered b 0 i c → ⊥
-  told-place b i c o u (well r w) q = above-zero b u (sym (ap (λ (t : Answer). t .answer) q))
-  told-place b i c o u (at-mark2 r f) q = omega (arith, ap (λ (t : Answer). t .place) q)
-  told-place b i c o u (at-mark1 h r t) q = omega (arith, ap (λ (t : Answer). t .place) q)
-  told-place b i c o u (at-limit h r t) q = not-nine b u (sym (ap (λ (t : Answer). t .answer) q))
+  gives-place : (b i c : ℕ) (o : Answer × Vec × Vec × Vec) → Class b → RunGives n limit edition (reduced n a) o → o .0 ≡ answered b 0 i c → ⊥
+  gives-place b i c o u (well r w) q = above-zero b u (sym (ap (λ (t : Answer). t .answer) q))
+  gives-place b i c o u (at-mark2 r f) q = omega (arith, ap (λ (t : Answer). t .place) q)
+  gives-place b i c o u (at-mark1 h r t) q = omega (arith, ap (λ (t : Answer). t .place) q)
+  gives-place b i c o u (at-limit h r t) q = not-nine b u (sym (ap (λ (t : Answer). t .answer) q))
 
   -- an outcome of a refusal that the run meets comes of the run
   record Of (o : Outcome) : Type 0 where
     from : Answer × Vec × Vec × Vec
     some : 0 < n
     sound : Reduced (reduced n a)
-    tells : Told n limit edition (reduced n a) from
+    tells : RunGives n limit edition (reduced n a) from
     same : from .0 ≡ o .0
 
   -- mark 0 answers 8 or 10, with place 0
@@ -274,7 +271,7 @@ module _ (n limit edition : ℕ) (a : Vec) where
   says-mark0 : (b i : ℕ) (o : Outcome) → Class b → Says n limit edition a o → o .0 ≡ answered b 0 i 0 → Broken0 n a b i
   says-mark0 b i o u (nothing z) q = absurd (above-zero b u (sym (ap (λ (t : Answer). t .answer) q)))
   says-mark0 b i o u (at-mark0 h) q = subst (λ (p : ℕ × ℕ). Broken0 n a (p .0) (p .1)) (λ v. (q v .answer, q v .index)) h
-  says-mark0 b i o u (runs {o = f} z s t) q = absurd (told-place b i 0 f u t (sym (given-answer n f) ∙ q))
+  says-mark0 b i o u (runs {o = f} z s t) q = absurd (gives-place b i 0 f u t (sym (given-answer n f) ∙ q))
 
   halted-limit : (l c : ℕ) → Halted n limit edition a used l c → (o : Outcome) → Says n limit edition a o → o .0 ≡ answered 9 l 0 c
   halted-limit l c h o s =
@@ -293,7 +290,7 @@ module _ (n limit edition : ℕ) (a work result : Vec) (f : Taken n limit editio
   pub limit-exactly : (l c : ℕ) → (eigen n limit edition a work result .0 ≡ answered 9 l 0 c) ↔ Halted n limit edition a used l c
   limit-exactly l c = (
     λ q. (let o = of-run n limit edition a _ (says n limit edition a work result f) (λ e. omega (arith, e, ap (λ (t : Answer). t .answer) q)) (λ m. not-nine _ (m .class) (ap (λ (t : Answer). t .answer) q)) in
-        told-limit n limit edition a l c (o .from) (o .some) (o .sound) (o .tells) (o .same ∙ q)),
+        gives-limit n limit edition a l c (o .from) (o .some) (o .sound) (o .tells) (o .same ∙ q)),
     λ h. halted-limit n limit edition a l c h _ (says n limit edition a work result f),
   )
 

@@ -29,7 +29,7 @@ use Rattle.answers.specs.ChecksLaws.{limit-right}
 use Rattle.eigen_tql2.specs.Sort.{sorted}
 use Rattle.eigen_theorems.specs.Tql2Document.{Carried, begun}
 use Rattle.eigen_theorems.specs.Tql2Lengths.{ran-long}
-use Rattle.eigen_theorems.specs.Tql2Outcome.{list1, list2, Ran, Whole, Told, well, at-mark2, at-mark1, at-limit}
+use Rattle.eigen_theorems.specs.Tql2Outcome.{list1, list2, Ran, Whole, RunGives, well, at-mark2, at-mark1, at-limit}
 use Rattle.eigen_theorems.specs.Tql2OutcomeLaws.{class-above, mark1-sees, ran-document}
 use Rattle.eigen_theorems.specs.Permutation.{Arranged}
 use Rattle.eigen_theorems.specs.Tql2SortLaws.{sorted-arranged, sorted-ascends}
@@ -60,7 +60,7 @@ checked n limit edition a work result = one (ltb 256 n) refl (limitGood limit) r
     b = refusal7 (firstBadLower n a)
 
     o : Outcome
-    o = cond (eqb n 0) (cleared n (done 0)) (given n (decomposed n limit edition a (zeros (n * n), zeros n, zeros n)))
+    o = cond (eqb n 0) (cleared n (done 0)) (given n (decomposed n limit edition a (zeros n, zeros n)))
 
     above : (k : ℕ) → (k ≡ 0 → ⊥) → 1 ≤ k
     above k d = omega arith
@@ -105,18 +105,18 @@ done-ran0 n limit edition a c result values vectors z (empty e k p q) r = absurd
 done-ran0 n limit edition a c result values vectors z (worked w) r =
     record { last = w .last; ran = w .ran; whole = w .whole; vectors = vectors; long = w .long; vectors-are = w .vectors-are; is = r ∙ ap (λ (t : Vec). t ++ vectors) (w .values-are) }
 
-told-zero : (n limit edition : ℕ) (x : Vec × Vec × Vec) (o : Answer × Vec × Vec × Vec) → Told n limit edition x o → o .0 .answer ≡ 0 → o .0 ≡ done (o .0 .count)
-told-zero n limit edition x o (well r w) e = refl
-told-zero n limit edition x o (at-mark2 {b = b} {i = i} {y = y} r f) e = absurd (omega (arith, class-above (list2 n y) b i f))
-told-zero n limit edition x o (at-mark1 {l = l} {b = b} {i = i} {z = z} h r t) e = absurd (omega (arith, class-above (list1 z) b i (mark1-sees n limit edition l t)))
-told-zero n limit edition x o (at-limit h r t) e = absurd (omega arith)
+gives-zero : (n limit edition : ℕ) (x : Vec × Vec × Vec) (o : Answer × Vec × Vec × Vec) → RunGives n limit edition x o → o .0 .answer ≡ 0 → o .0 ≡ done (o .0 .count)
+gives-zero n limit edition x o (well r w) e = refl
+gives-zero n limit edition x o (at-mark2 {b = b} {i = i} {y = y} r f) e = absurd (omega (arith, class-above (list2 n y) b i f))
+gives-zero n limit edition x o (at-mark1 {l = l} {b = b} {i = i} {z = z} h r t) e = absurd (omega (arith, class-above (list1 z) b i (mark1-sees n limit edition l t)))
+gives-zero n limit edition x o (at-limit h r t) e = absurd (omega arith)
 
 says-zero : (n limit edition : ℕ) (a : Vec) (o : Outcome) → Says n limit edition a o → o .0 .answer ≡ 0 → o .0 ≡ done (o .0 .count)
 says-zero n limit edition a o (nothing z) e = refl
 says-zero n limit edition a o (at-mark0 {b = b} {i = i} h) e = absurd (omega (arith, class-above (list0 n (reduced n a)) b i (h .seen)))
 says-zero n limit edition a o (runs {o = f} z s t) e =
     let g = given-answer n f in
-    g ∙ told-zero n limit edition (reduced n a) f t (ap (λ (x : Answer). x .answer) (sym g) ∙ e) ∙ ap (λ (x : Answer). done (x .count)) (sym g)
+    g ∙ gives-zero n limit edition (reduced n a) f t (ap (λ (x : Answer). x .answer) (sym g) ∙ e) ∙ ap (λ (x : Answer). done (x .count)) (sym g)
 
 module _ (n limit edition : ℕ) (a work result : Vec) (zero-answer : eigen n limit edition a work result .0 .answer ≡ 0) where
   -- what it gave, and that it is exactly that

@@ -33,10 +33,10 @@ use Rattle.eigen_theorems.specs.Tql2Invariant.{plus, nought, nought-zero
 use Rattle.eigen_theorems.specs.Tql2Lengths.{body-long}
 use Rattle.eigen_theorems.specs.Tql2Marks.{closed-used}
 use Rattle.eigen_tql2_step.specs.SkipSettled.{goneOn, come, foundL}
-use Rattle.eigen_tql2_step.specs.Advance.{undecided, decided, step}
+use Rattle.eigen_tql2_step.specs.Advance.{step}
 use Rattle.eigen_tql2_step.specs.Checks.{inRange, sound}
 use Rattle.eigen_tql2_step.specs.CheckLaws.{Open}
-use Rattle.eigen_tql2_step.specs.SkipSettledLaws.{left, left-open, Found, found-found, closed-settled, onward-going, onward-ended}
+use Rattle.eigen_tql2_step.specs.SkipSettledLaws.{decided, left, left-open, Found, found-found, closed-settled, onward-going, onward-ended}
 
 -- ---- what is kept
 
@@ -140,7 +140,6 @@ closed-marked x c q a b =
     ∙ (λ i. cond (a i) (released x) (cond (b i) (stopping (x .0) 9, x .1, x .2, x .3) x))
 
 decided-next : (n limit edition : ℕ) (x : State) → Open n limit (x .0) → Body n x → x .0 .l < n → x .0 .l < x .0 .m → Next n limit x (decided limit (pass n edition x))
-unfolding decided undecided
 decided-next n limit edition x o b h a = go (one-pass n edition x a (o .within) b)
   where
     y : State

@@ -31,22 +31,21 @@ use Rattle.eigen_tred2_definition.specs.Tred2.{tred2}
 use Rattle.eigen_tred2_definition.specs.Sizes.{tred2-square, tred2-diagonal, tred2-beside}
 use Rattle.eigen_tql2.specs.LStartEnd.{State, fresh}
 use Rattle.eigen_tql2.specs.RunOverL.{run}
-use Rattle.eigen_tql2.specs.Tql2.{upStep, movedUp, tql2}
+use Rattle.eigen_tql2.specs.Tql2.{movedUp, tql2}
+use Rattle.eigen_tql2.specs.Tql2Steps.{upStep}
 use Rattle.eigen_tql2.specs.LStartEnd as LStartEnd
 use Rattle.eigen_tql2.specs.Finish.{qlFinished}
 use Rattle.eigen_theorems.specs.Tql2Invariant.{plus-zero, moved-last}
 use Rattle.eigen_symmetric_eigen.specs.Layout.{columns}
 use Rattle.eigen_symmetric_eigen.specs.AfterTred2.{mark0, afterTred}
 use Rattle.eigen_symmetric_eigen.specs.SymmetricEigen.{decomposed, cleared, given, eigen}
-use Rattle.eigen_symmetric_eigen.specs.Layout as Layout
 use Rattle.eigen_symmetric_eigen.specs.SymmetricEigen as SymmetricEigen
 use Rattle.eigen_symmetric_eigen.specs.LayoutLaws.{columns-long}
 use Rattle.eigen_tql2_step.specs.Advance.{step}
 use Rattle.eigen_tql2_step.specs.Checks.{checked}
 use Rattle.eigen_tql2_step.specs.CheckLaws.{Open}
-use Rattle.eigen_steps.specs.Prepare.{readied}
-use Rattle.eigen_steps.specs.Arrays.{setting, stateOf, closedUp}
-use Rattle.eigen_steps.specs.Steps.{Outcome, running, recorded, answering, endsAs, newRun, endsWith, begun, startEntered, started, moved, stepped, finished}
+use Rattle.eigen_steps.specs.Arrays.{stateOf, closedUp}
+use Rattle.eigen_steps.specs.Steps.{Outcome, running, recorded, answering, endsAs, endsWith, begun, startEntered, started, moved, stepped, finished}
 use Rattle.eigen_theorems.specs.StepsRuns.{walked, arrived, reply, Reached}
 use Rattle.eigen_theorems.specs.StepsRest.{rest, rest-ended, rest-fresh, rest-last, step-whole}
 use Rattle.eigen_theorems.specs.StepsKept.{Body, Next, halts, goes, step-next, in-range, is-sound}
@@ -343,7 +342,7 @@ fresh-open n limit s l = record {
 
 module _ (n limit edition : ℕ) (a : Vec) (f : Fit n limit edition) where
   first : Vec × Vec × Vec
-  first = (columns n a (zeros (n * n)), zeros n, zeros n)
+  first = (columns n a, zeros n, zeros n)
 
   begun-body : (x : Vec × Vec × Vec) → x ≡ tred2 n first → mark0 n (x .0) (x .1) (x .2) ≡ Nowhere → Body n (fresh, x .0, x .1, movedUp n (x .2))
   unfolding mark0 first
@@ -352,7 +351,7 @@ module _ (n limit edition : ℕ) (a : Vec) (f : Fit n limit edition) where
       let q = finite-both (x .1) (x .2) p in
       let ld : length (x .1) ≡ n = ap (λ (y : Vec × Vec × Vec). length (y .1)) e ∙ tred2-diagonal n first ∙ length-replicate n zero64 in
       let le : length (x .2) ≡ n = ap (λ (y : Vec × Vec × Vec). length (y .2)) e ∙ tred2-beside n first ∙ length-replicate n zero64 in
-      let lv : length (x .0) ≡ n * n = ap (λ (y : Vec × Vec × Vec). length (y .0)) e ∙ tred2-square n first ∙ columns-long n a (zeros (n * n)) (length-replicate (n * n) zero64) in
+      let lv : length (x .0) ≡ n * n = ap (λ (y : Vec × Vec × Vec). length (y .0)) e ∙ tred2-square n first ∙ columns-long n a in
       let m = moved-fine n (x .2) (f .some) (record { long = le; all = λ k l. q .1 k (omega (arith, le)) }) in
       record {
         sized = record { square = lv; diagonal = ld; beside = m .long };
@@ -362,28 +361,22 @@ module _ (n limit edition : ℕ) (a : Vec) (f : Fit n limit edition) where
         besides = λ k s l. m .all k l;
       }
 
-  begun-made : Made n limit edition (given n (decomposed n limit edition a (zeros (n * n), zeros n, zeros n))) (begun n limit edition a)
-  unfolding decomposed afterTred begun setting readied
+  begun-made : Made n limit edition (given n (decomposed n limit edition a (zeros n, zeros n))) (begun n limit edition a)
+  unfolding decomposed afterTred begun
   begun-made = go (mark0 n (x .0) (x .1) (x .2)) refl
     where
       x : Vec × Vec × Vec
-      x = tred2 n (columns n a (zeros (n * n)), zeros n, zeros n)
+      x = tred2 n (columns n a, zeros n, zeros n)
 
       s : State
       s = (fresh, x .0, x .1, movedUp n (x .2))
 
-      -- what begun does with what readied gives
-      then : Bad × Vec × Vec × Vec → Outcome
-      then y =
-          let z : Bad × Vec × Vec = cond (isBad (y .0)) (y .0, zeros n, zeros (n + n * n)) (y .0, y .3, y .2 ++ y .1) in
-          cond (isBad (z .0)) (newRun n limit edition 1 (marked 0 0 (z .0)), z .1, z .2) (newRun n limit edition 0 (done 0), z .1, z .2)
-
       -- a class is not 0
       refuses : (k c : ℕ) → eqb c 0 ≡ false → cleared n (answered c 0 k 0) ≡ given n (answered c 0 k 0, x .0, x .1, x .2)
-      refuses k c z = unfold given in sym (λ i. cond (z i) (answered c 0 k 0, zeros n, x .1 ++ Layout.rows n (x .0)) (cleared n (answered c 0 k 0)))
+      refuses k c z = unfold given in sym (λ i. cond (z i) (answered c 0 k 0, zeros n, x .1 ++ byRows n (x .0)) (cleared n (answered c 0 k 0)))
 
       go : (m : Bad) → mark0 n (x .0) (x .1) (x .2) ≡ m
-          → Made n limit edition (given n (cond (isBad m) (marked 0 0 m, x .0, x .1, x .2) (tql2 n limit edition x))) (then (cond {A = Bad × Vec × Vec × Vec} (isBad m) (m, x .0, x .1, x .2) (m, x .0, x .1, movedUp n (x .2))))
+          → Made n limit edition (given n (cond (isBad m) (marked 0 0 m, x .0, x .1, x .2) (tql2 n limit edition x))) (cond (isBad m) (endsWith n limit edition (cleared n (marked 0 0 m))) (recorded n limit edition fresh (done 0), movedUp n (x .2), x .1 ++ x .0))
       go (At k c) h =
           let s : (c ≡ 8) ⊎ (c ≡ 10) = unfold mark0 in scan-class (at (x .1 ++ x .2 ++ byRows n (x .0))) (length (x .1 ++ x .2 ++ byRows n (x .0))) k c h in
           over refl (refuses k c (⊎-elim (λ (e : c ≡ 8). ap (λ (j : ℕ). eqb j 0) e) (λ (e : c ≡ 10). ap (λ (j : ℕ). eqb j 0) e) s))

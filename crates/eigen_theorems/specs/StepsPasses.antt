@@ -1,11 +1,12 @@
 -- How fast a run in steps goes: a start runs no pass, a step one at the most, and exactly one where steps are left behind it; so a run is not over before as many steps as the one call runs passes. Laws only.
 use mathlib.Core.Path.{_≡_, refl, sym, ap, _∙_, subst}
 use mathlib.Core.Bool.{Bool, true, false, cond, not, _&&_}
+use mathlib.Core.List.{_++_}
 use Prim.Native.Nat.{ℕ, zero, suc, _+_, _-_, _*_, _≤_}
 use native.Mathlib.Omega.{arith}
 use lib.Dec.{ltb, eqb}
 use lib.ListN.{length}
-use Rattle.grid.specs.Real.{Vec}
+use Rattle.grid.specs.Real.{Vec, zeros}
 use Rattle.leaves.specs.Scan.{isBad, firstBadLower}
 use Rattle.leaves.specs.declared.Bad.{Bad}
 use Rattle.leaves.specs.declared.Bad.the-variants.{At, Nowhere}
@@ -17,15 +18,19 @@ use Rattle.eigen_tql2_pass.specs.declared.Run.{Run}
 use Rattle.eigen_tql2.specs.LStartEnd.{State, opened, stopping, released, closed, ended}
 use Rattle.eigen_tql2.specs.Finish.{mark2, qlFinished}
 use Rattle.eigen_symmetric_eigen.specs.SymmetricEigen.{given, cleared, eigen}
-use Rattle.eigen_tql2_step.specs.SkipSettled.{onward, nextL, goneOn, come, skipped, foundL}
-use Rattle.eigen_tql2_step.specs.Advance.{undecided, decided, step}
+use Rattle.eigen_tql2_step.specs.SkipSettled.{nextL, goneOn, come, skipped, foundL}
+use Rattle.eigen_tql2_step.specs.Advance.{step}
+use Rattle.eigen_tql2_step.specs.SkipSettledLaws.{undecided, decided}
 use Rattle.eigen_tql2_step.specs.Checks.{checked, inRange, sound}
-use Rattle.eigen_steps.specs.Arrays.{setting, stateOf, laidOut, closedUp}
-use Rattle.eigen_steps.specs.Steps.{Outcome, running, recorded, answering, endsAs, newRun, endsWith, begun, startEntered, started, moved, stepped, finished}
+use Rattle.eigen_steps.specs.Arrays.{stateOf, closedUp}
+use Rattle.eigen_steps.specs.Steps.{Outcome, running, recorded, answering, endsAs, endsWith, begun, startEntered, started, moved, stepped, finished}
 use Rattle.eigen_steps.specs.declared.EigenRun.{EigenRun}
 use Rattle.eigen_theorems.specs.StepsRuns.{walked, after, arrived, reply}
 use Rattle.eigen_theorems.specs.StepsMade.{gains, started-made, walk-made}
 use Rattle.eigen_theorems.specs.StepsEnd.{steps-end-as-one-call}
+use Rattle.eigen_tred2_definition.specs.Tred2.{tred2}
+use Rattle.eigen_symmetric_eigen.specs.Layout.{columns}
+use Rattle.eigen_symmetric_eigen.specs.AfterTred2.{mark0}
 
 either : {A : Type 0} (P : A → Type 0) (b : Bool) {x y : A} → P x → P y → P (cond b x y)
 either P true p q = p
@@ -42,7 +47,6 @@ module _ (c : ℕ) where
   closed-has x h = either Has (eqb (x .0 .stop) 1) h (either Has (eqb (x .0 .stop) 0) h h)
 
   onward-has : (x : State) → Has x → Has (goneOn x)
-  unfolding onward
   onward-has x h = either (λ (r : Run). r .count ≡ c) (not (eqb (x .0 .stop) 0)) h h
 
   come-has : (n : ℕ) (x : State) → Has x → Has (come n x)
@@ -59,7 +63,6 @@ module _ (c : ℕ) where
   found-has n x h = either Has (eqb (x .0 .passes) 0) (skipped-has n (n - x .0 .l) x h) h
 
   decided-has : (limit : ℕ) (x : State) → Has x → Has (decided limit x)
-  unfolding decided
   decided-has limit x h = either Has (undecided limit (x .0)) h (onward-has (closed x) (closed-has x h))
 
 pass-has : (c n edition : ℕ) (x : State) → Has c x → Has (c + 1) (pass n edition x)
@@ -112,7 +115,10 @@ NoPass t = (t .0 .run .count ≡ 0) × (t .0 .answer .count ≡ 0)
 
 begun-none : (n limit edition : ℕ) (a : Vec) → NoPass (begun n limit edition a)
 unfolding begun
-begun-none n limit edition a = let b = setting n a .0 in either NoPass (isBad b) (refl, marked-count 0 0 b) (refl, refl)
+begun-none n limit edition a =
+    let x = tred2 n (columns n a, zeros n, zeros n) in
+    let b = mark0 n (x .0) (x .1) (x .2) in
+    either NoPass (isBad b) (refl, marked-count 0 0 b) (refl, refl)
 
 entered-none : (n limit edition : ℕ) (a : Vec) → NoPass (startEntered n limit edition a)
 unfolding startEntered
@@ -214,7 +220,7 @@ stepped-counts q work result h =
     let y = step (q .n) (q .limit) (q .edition) (stateOf (q .n) (q .run) work result) in
     either Counts (running q)
     (either Counts (passed x)
-    (either Counts (eqb (y .0 .stop) 0) (at-most _ _ refl) (at-most _ _ (closed-count (q .n) (y .0) (y .3) (laidOut y .2))))
+    (either Counts (eqb (y .0 .stop) 0) (at-most _ _ refl) (at-most _ _ (closed-count (q .n) (y .0) (y .3) (y .2 ++ y .1))))
     (none-most _ _ (checked-none (q .n) (q .limit) (q .edition) (q .run) work result)))
     h
 

@@ -20,8 +20,8 @@ use Rattle.eigen_tql2.specs.RunOverL.{iterated, stage, turn}
 use Rattle.eigen_tql2.specs.Finish.{mark2, qlFinished}
 use Rattle.eigen_tql2.specs.Sort.{sorted}
 use Rattle.eigen_tql2_step.specs.SkipSettled.{nextL, goneOn, come, skipped, foundL}
-use Rattle.eigen_tql2_step.specs.Advance.{undecided, decided, step}
-use Rattle.eigen_tql2_step.specs.SkipSettledLaws.{going-on, onward-ended, onward-going, closed-settled, closed-l, passedOver, Coming, settles, stays, coming}
+use Rattle.eigen_tql2_step.specs.Advance.{step}
+use Rattle.eigen_tql2_step.specs.SkipSettledLaws.{undecided, decided, going-on, onward-ended, onward-going, closed-settled, closed-l, passedOver, Coming, settles, stays, coming}
 
 -- ---- a loop, its first turn in front
 
@@ -233,7 +233,7 @@ module _ (n limit edition : ℕ) where
       at-l z = qlFinished n (upto (turn n limit edition) (x .0 .l + 1) n (closed z))
 
       pick : {b : Bool} → undecided limit (y .0) ≡ b → decided limit y ≡ cond b y (goneOn (closed y))
-      pick e = unfold decided in λ i. cond (e i) y (goneOn (closed y))
+      pick e = λ i. cond (e i) y (goneOn (closed y))
 
       closes-at : closed y .0 .l ≡ x .0 .l
       closes-at = closed-l y ∙ pass-l x
@@ -247,12 +247,12 @@ module _ (n limit edition : ℕ) where
           ∙ ap at-l (sym r)
 
       go : (a : Bool) → eqb (y .0 .stop) 0 ≡ a → (b : Bool) → ltb (y .0 .passes) limit ≡ b → qlFinished n (rest n limit edition (decided limit y)) ≡ qlFinished n (worked n limit edition x)
-      go false s b t = unfold undecided worked in leaves (λ i. s i && ltb (y .0 .passes) limit) (one (ap not s))
-      go true s false t = unfold undecided worked in
+      go false s b t = unfold worked in leaves (λ i. s i && ltb (y .0 .passes) limit) (one (ap not s))
+      go true s false t = unfold worked in
           let z : k ≡ 0 = omega (arith, ltb-false (y .0 .passes) limit t) in
           let none : y ≡ rounds (pass n edition) ended k y = rounds-done (pass n edition) ended k (omega arith) refl in
           leaves (λ i. s i && t i) (one (ap not s) ∙ sym none)
-      go true s true t = unfold undecided worked in
+      go true s true t = unfold worked in
           ap (λ (s : State). qlFinished n (rest n limit edition s)) (pick (λ i. s i && t i))
           ∙ ap (qlFinished n) (rest-worked n limit edition y (eqb-true _ _ s) (ne-eqb _ _ (λ (q : y .0 .passes ≡ 0). omega (arith, pass-passes x))))
           ∙ ap (λ (j : ℕ). qlFinished n (upto (turn n limit edition) (j + 1) n (closed (rounds (pass n edition) ended k y)))) (pass-l x)

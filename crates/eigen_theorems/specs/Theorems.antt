@@ -36,33 +36,28 @@ one-outcome n limit edition a work result x y p q = p ∙ sym q
 abbrev pub Alike : ℕ → Vec → Vec → Type 0
 Alike n a b = (i j : ℕ) → j ≤ i → i < n → entry a n i j ≡ entry b n i j
 
-sized : (n : ℕ) (a : Vec) → Sized n (columns n a (zeros (n * n))) (zeros n) (zeros n)
+sized : (n : ℕ) (a : Vec) → Sized n (columns n a) (zeros n) (zeros n)
 sized n a = record {
-  square = columns-long n a (zeros (n * n)) (length-replicate (n * n) zero64);
+  square = columns-long n a;
   diagonal = length-replicate n zero64;
   beside = length-replicate n zero64;
 }
 
 decomposed-alike : (n limit edition : ℕ) (a b : Vec) → 0 < n → Alike n a b
-    → decomposed n limit edition a (zeros (n * n), zeros n, zeros n) ≡ decomposed n limit edition b (zeros (n * n), zeros n, zeros n)
+    → decomposed n limit edition a (zeros n, zeros n) ≡ decomposed n limit edition b (zeros n, zeros n)
 unfolding decomposed
 decomposed-alike n limit edition a b z h =
-    ap (afterTred n limit edition) (lower n (columns n a v) (columns n b v) (zeros n) (zeros n) (zeros n) (zeros n) z (sized n a) (sized n b) cells)
+    ap (afterTred n limit edition) (lower n (columns n a) (columns n b) (zeros n) (zeros n) (zeros n) (zeros n) z (sized n a) (sized n b) cells)
   where
-    v : Vec
-    v = zeros (n * n)
-
-    cells : (i j : ℕ) → j ≤ i → i < n → at2 (columns n a v) n i j ≡ at2 (columns n b v) n i j
-    cells i j p q =
-        let l : length v ≡ n * n = length-replicate (n * n) zero64 in
-        columns-cell n a v i j l q (omega arith) ∙ h i j p q ∙ sym (columns-cell n b v i j l q (omega arith))
+    cells : (i j : ℕ) → j ≤ i → i < n → at2 (columns n a) n i j ≡ at2 (columns n b) n i j
+    cells i j p q = columns-cell n a i j q (omega arith) ∙ h i j p q ∙ sym (columns-cell n b i j q (omega arith))
 
 entered-alike : (n limit edition : ℕ) (a b : Vec) → length a ≡ n * n → length b ≡ n * n → Alike n a b → eigenEntered n limit edition a ≡ eigenEntered n limit edition b
 unfolding eigenEntered
 entered-alike n limit edition a b la lb h = rw (lower-same n a b la lb h) (ap (λ (x : Outcome). cond (passed (refusal7 (firstBadLower n b))) x (cleared n (refusal7 (firstBadLower n b)))) (go (eqb n 0) refl))
   where
     work : Vec → Outcome
-    work a = given n (decomposed n limit edition a (zeros (n * n), zeros n, zeros n))
+    work a = given n (decomposed n limit edition a (zeros n, zeros n))
 
     go : (t : Bool) → eqb n 0 ≡ t → cond (eqb n 0) (cleared n (done 0)) (work a) ≡ cond (eqb n 0) (cleared n (done 0)) (work b)
     go true e = rw e

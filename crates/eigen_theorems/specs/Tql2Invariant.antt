@@ -23,7 +23,8 @@ use Rattle.hypot.specs.Edition.{pythag}
 use Rattle.eigen_tql2_pass.specs.Transform.{spin, spins, still, landed, transformed}
 use Rattle.eigen_tql2_pass.specs.Pass.{tiny}
 use Rattle.eigen_tql2_pass.specs.declared.ql_transformation.Spin.{Spin}
-use Rattle.eigen_tql2.specs.Tql2.{upStep, movedUp}
+use Rattle.eigen_tql2.specs.Tql2.{movedUp}
+use Rattle.eigen_tql2.specs.Tql2Steps.{upStep}
 use Rattle.eigen_tql2.specs.LStartEnd.{split}
 
 -- ---- f64: a number with no minus sign, which nan is not; a zero of either sign

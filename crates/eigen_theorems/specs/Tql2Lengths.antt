@@ -8,9 +8,11 @@ use lib.ListN.{length, length-set}
 use Rattle.grid.specs.Loop.{drops, fall}
 use Rattle.grid.specs.Real.{Vec}
 use Rattle.grid.specs.CellLaws.{upto-long}
-use Rattle.eigen_tql2_pass.specs.Transform.{shift, lessStep, lessened, rotStep, rotated, spin, spins, landed, transformed}
+use Rattle.eigen_tql2_pass.specs.Transform.{shift, lessened, rotated, spin, spins, landed, transformed}
+use Rattle.eigen_tql2_pass.specs.TransformSteps.{lessStep, rotStep}
 use Rattle.eigen_tql2_pass.specs.declared.ql_transformation.Spin.{Spin}
-use Rattle.eigen_tql2.specs.Sort.{leastFrom, swapStep, swapped, sortStep, sorted}
+use Rattle.eigen_tql2.specs.Sort.{leastFrom, swapped, sortStep, sorted}
+use Rattle.eigen_tql2.specs.SortSteps.{swapStep}
 use Rattle.eigen_theorems.specs.Tql2Document.{Carried, body, Looped, once, again, Turned, at-once, by-passes, Ran, none, more, Tql2}
 
 rotated-long : (n i : ℕ) (c s : Float) (v : Vec) → length (rotated n i c s v) ≡ length v

@@ -1,4 +1,4 @@
--- The outcome of tql2 is the one that is told (`told`), so marks and limit only stop document 000's own (`tql2-document`); and at each l that a run comes to, document 000's test holds at n - 1 (`test-at-last`). Laws only.
+-- The outcome of tql2 is the one that the run gives (`run-gives`), so marks and limit only stop document 000's own (`tql2-document`); and at each l that a run comes to, document 000's test holds at n - 1 (`test-at-last`). Laws only.
 use mathlib.Core.Path.{_≡_, refl, sym, ap, _∙_, subst}
 use mathlib.Core.Logic.{_⊎_, ⊎-elim, inl, inr}
 use mathlib.Core.Bool.{Bool, true, false, cond, not}
@@ -35,8 +35,8 @@ use Rattle.eigen_tql2.specs.LStartEndBounds.{split-below}
 use Rattle.eigen_theorems.specs.Tql2Invariant.{plus, nought, plus-zero, nought-zero, plus-larger, tiny-last, split-is, transformed-ended, moved-long, moved-last}
 use Rattle.eigen_theorems.specs.Tql2Document.{Carried, begun, grown, searched, settled, valued, Tql2}
 use Rattle.eigen_theorems.specs.Tql2Lengths.{ran-long}
-use Rattle.eigen_theorems.specs.Tql2Outcome.{Sound, FirstIn, list1, list2, End, here, bad, used, Looped, no-more, stop, once, again, Turned, at-once, by-passes, by-mark, by-limit, Ran, none, more, Whole, Told, well, at-mark2, at-mark1, at-limit}
-use Rattle.eigen_theorems.specs.Tql2OutcomeLaws.{Ended, code, pointer, first-class, looped-sees, ran-document, told-document}
+use Rattle.eigen_theorems.specs.Tql2Outcome.{Sound, FirstIn, list1, list2, End, here, bad, used, Looped, no-more, stop, once, again, Turned, at-once, by-passes, by-mark, by-limit, Ran, none, more, Whole, RunGives, well, at-mark2, at-mark1, at-limit}
+use Rattle.eigen_theorems.specs.Tql2OutcomeLaws.{Ended, code, pointer, first-class, looped-sees, ran-document, gives-document}
 
 -- what document 000 carries, of a run's state
 abbrev carried : State → Carried
@@ -310,9 +310,9 @@ mark2-first : (n : ℕ) (x : Carried) (b i : ℕ) → mark2 n (x .v) (x .d) ≡ 
 unfolding mark2
 mark2-first n x b i h = scan-first (at (list2 n x)) (length (list2 n x)) i b h
 
-finished-told : (n limit edition : ℕ) (x : Vec × Vec × Vec) (y : State) → length (x .0) ≡ n * n → Stood n limit edition (begun n x) n y → Told n limit edition x (qlFinished n y)
+finished-gives : (n limit edition : ℕ) (x : Vec × Vec × Vec) (y : State) → length (x .0) ≡ n * n → Stood n limit edition (begun n x) n y → RunGives n limit edition x (qlFinished n y)
 unfolding qlFinished Stopped
-finished-told n limit edition x y long s = go s
+finished-gives n limit edition x y long s = go s
   where
     end : Bad → Ended
     end b = cond (isBad b) (answers.marked 2 (y .0 .count) b, y .1, y .2, y .3) (done (y .0 .count), sorted n (y .1, y .2) .0, sorted n (y .1, y .2) .1, y .3)
@@ -322,29 +322,29 @@ finished-told n limit edition x y long s = go s
         cond (eqb s 9) (answered 9 (y .0 .l) 0 (y .0 .count), y .1, y .2, y .3)
         (cond (not (eqb s 0)) (answered (y .0 .stop) 1 (y .0 .index) (y .0 .count), y .1, y .2, y .3) (end (mark2 n (y .1) (y .2))))
 
-    over : {s : ℕ} → y .0 .stop ≡ s → Told n limit edition x (after s) → Told n limit edition x (after (y .0 .stop))
-    over q a = subst (λ (s : ℕ). Told n limit edition x (after s)) (sym q) a
+    over : {s : ℕ} → y .0 .stop ≡ s → RunGives n limit edition x (after s) → RunGives n limit edition x (after (y .0 .stop))
+    over q a = subst (λ (s : ℕ). RunGives n limit edition x (after s)) (sym q) a
 
-    last : Ran n limit edition (begun n x) n (y .0 .count) (carried y) → length (y .1) ≡ n * n → (b : Bad) → mark2 n (y .1) (y .2) ≡ b → Told n limit edition x (end b)
+    last : Ran n limit edition (begun n x) n (y .0 .count) (carried y) → length (y .1) ≡ n * n → (b : Bad) → mark2 n (y .1) (y .2) ≡ b → RunGives n limit edition x (end b)
     last r l (At i b) e = at-mark2 r (mark2-first n (carried y) b i e)
     last r l Nowhere e = well r (mark2-whole n (carried y) l e)
 
-    stopped : Halted n limit edition (begun n x) (bad (y .0 .stop) (y .0 .index)) n y → Told n limit edition x (answered (y .0 .stop) 1 (y .0 .index) (y .0 .count), y .1, y .2, y .3)
+    stopped : Halted n limit edition (begun n x) (bad (y .0 .stop) (y .0 .index)) n y → RunGives n limit edition x (answered (y .0 .stop) 1 (y .0 .index) (y .0 .count), y .1, y .2, y .3)
     stopped w =
-        subst (λ (k : ℕ). Told n limit edition x (answered (y .0 .stop) 1 (y .0 .index) k, y .1, y .2, y .3)) (sym (w .counts)) (at-mark1 (w .below) (w .ran) (w .turned))
+        subst (λ (k : ℕ). RunGives n limit edition x (answered (y .0 .stop) 1 (y .0 .index) k, y .1, y .2, y .3)) (sym (w .counts)) (at-mark1 (w .below) (w .ran) (w .turned))
 
-    go : Stood n limit edition (begun n x) n y → Told n limit edition x (after (y .0 .stop))
+    go : Stood n limit edition (begun n x) n y → RunGives n limit edition x (after (y .0 .stop))
     go (marked q w) = ⊎-elim (λ e. over e (stopped w)) (λ e. over e (stopped w)) q
     go (spent q w) =
-        over q (subst (λ (t : ℕ × ℕ). Told n limit edition x (answered 9 (t .0) 0 (t .1), y .1, y .2, y .3)) (λ i. (sym (w .stays) i, sym (w .counts) i)) (at-limit (w .below) (w .ran) (w .turned)))
+        over q (subst (λ (t : ℕ × ℕ). RunGives n limit edition x (answered 9 (t .0) 0 (t .1), y .1, y .2, y .3)) (λ i. (sym (w .stays) i, sym (w .counts) i)) (at-limit (w .below) (w .ran) (w .turned)))
     go (going q f r) = over q (last r (ran-long n edition (ran-document n limit edition r) .vectors ∙ long) (mark2 n (y .1) (y .2)) refl)
 
--- **the outcome of tql2 is the one that is told**
-pub told : (n limit edition : ℕ) (x : Vec × Vec × Vec) → 0 < n → length (x .0) ≡ n * n → length (x .2) ≡ n → Told n limit edition x (tql2 n limit edition x)
+-- **the outcome of tql2 is the one that the run gives**
+pub run-gives : (n limit edition : ℕ) (x : Vec × Vec × Vec) → 0 < n → length (x .0) ≡ n * n → length (x .2) ≡ n → RunGives n limit edition x (tql2 n limit edition x)
 unfolding tql2 run started
-told n limit edition x z long e = finished-told n limit edition x _ long (stands n limit edition n x z (omega arith) e)
+run-gives n limit edition x z long e = finished-gives n limit edition x _ long (stands n limit edition n x z (omega arith) e)
 
 -- **marks and limit only stop**: where an outcome is done, it is document 000's
 pub tql2-document : (n limit edition : ℕ) (x : Vec × Vec × Vec) → 0 < n → length (x .0) ≡ n * n → length (x .2) ≡ n → tql2 n limit edition x .0 .answer ≡ 0
     → Tql2 n edition x (tql2 n limit edition x .1, tql2 n limit edition x .2, tql2 n limit edition x .3)
-tql2-document n limit edition x z long e = told-document n limit edition x (tql2 n limit edition x) (told n limit edition x z long e)
+tql2-document n limit edition x z long e = gives-document n limit edition x (tql2 n limit edition x) (run-gives n limit edition x z long e)

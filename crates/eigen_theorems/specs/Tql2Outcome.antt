@@ -1,4 +1,4 @@
--- The scope's `tql2` told by document 000's own loops: each pass leaves d and e finite, at most `limit` passes run at each l, and so many run in all; or where and why it stops. Definitions only.
+-- The scope's `tql2` by document 000's own loops: each pass leaves d and e finite, at most `limit` passes run at each l, and so many run in all; or where and why it stops. Definitions only.
 -- Nothing here speaks of the record that a run carries.
 use mathlib.Core.Path.{_≡_}
 use mathlib.Core.Bool.{true, false}
@@ -66,11 +66,11 @@ pub record Whole (x : Carried) : Type 0 where
   pub vectors : Finite (x .v)
 
 -- the outcome of tql2 on (v, d, e): done after c passes, or stopped by mark 2, by mark 1, by the limit
-pub data Told (n limit edition : ℕ) (x : Vec × Vec × Vec) : Answer × Vec × Vec × Vec → Type 0 where
+pub data RunGives (n limit edition : ℕ) (x : Vec × Vec × Vec) : Answer × Vec × Vec × Vec → Type 0 where
   well : {c : ℕ} {y : Carried} → Ran n limit edition (begun n x) n c y → Whole y
-      → Told n limit edition x (done c, sorted n (y .v, y .d) .0, sorted n (y .v, y .d) .1, y .e)
-  at-mark2 : {c b i : ℕ} {y : Carried} → Ran n limit edition (begun n x) n c y → FirstIn (list2 n y) b i → Told n limit edition x (answered b 2 i c, y .v, y .d, y .e)
+      → RunGives n limit edition x (done c, sorted n (y .v, y .d) .0, sorted n (y .v, y .d) .1, y .e)
+  at-mark2 : {c b i : ℕ} {y : Carried} → Ran n limit edition (begun n x) n c y → FirstIn (list2 n y) b i → RunGives n limit edition x (answered b 2 i c, y .v, y .d, y .e)
   at-mark1 : {l c k b i : ℕ} {y z : Carried} → l < n → Ran n limit edition (begun n x) l c y → Turned n limit edition l y k (bad b i) z
-      → Told n limit edition x (answered b 1 i (c + k), z .v, z .d, z .e)
+      → RunGives n limit edition x (answered b 1 i (c + k), z .v, z .d, z .e)
   at-limit : {l c k : ℕ} {y z : Carried} → l < n → Ran n limit edition (begun n x) l c y → Turned n limit edition l y k used z
-      → Told n limit edition x (answered 9 l 0 (c + k), z .v, z .d, z .e)
+      → RunGives n limit edition x (answered 9 l 0 (c + k), z .v, z .d, z .e)

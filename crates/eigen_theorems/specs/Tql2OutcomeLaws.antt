@@ -1,4 +1,4 @@
--- The outcome that is told: one at most (`told-once`), its loops are document 000's own, and what a stop means. Laws only.
+-- The outcome that a run gives (`RunGives`): one at most (`gives-once`), its loops are document 000's own, and what a stop means. Laws only.
 use mathlib.Core.Path.{_≡_, refl, sym, ap, _∙_, subst}
 use mathlib.Core.Logic.{_⊎_, ⊎-elim}
 use mathlib.Core.Bool.{true≢false}
@@ -19,7 +19,7 @@ use Rattle.answers.specs.declared.Answer.{Answer}
 use Rattle.eigen_tql2.specs.Sort.{sorted}
 use Rattle.eigen_theorems.specs.Tql2Document as Doc
 use Rattle.eigen_theorems.specs.Tql2Document.{Carried, begun, valued}
-use Rattle.eigen_theorems.specs.Tql2Outcome.{Sound, FirstIn, list1, list2, End, here, bad, used, Looped, no-more, stop, once, again, Turned, at-once, by-passes, by-mark, by-limit, Ran, none, more, Whole, Told, well, at-mark2, at-mark1, at-limit}
+use Rattle.eigen_theorems.specs.Tql2Outcome.{Sound, FirstIn, list1, list2, End, here, bad, used, Looped, no-more, stop, once, again, Turned, at-once, by-passes, by-mark, by-limit, Ran, none, more, Whole, RunGives, well, at-mark2, at-mark1, at-limit}
 
 -- ---- what a mark sees
 
@@ -217,28 +217,28 @@ saw used = (0, 0)
 abbrev pub Ended : Type 0
 Ended = Answer × Vec × Vec × Vec
 
-pub told-once : (n limit edition : ℕ) (x : Vec × Vec × Vec) (o p : Ended) → Told n limit edition x o → Told n limit edition x p → o ≡ p
+pub gives-once : (n limit edition : ℕ) (x : Vec × Vec × Vec) (o p : Ended) → RunGives n limit edition x o → RunGives n limit edition x p → o ≡ p
 unfolding kind saw
-told-once n limit edition x o p (well r f) (well s g) = ap (λ (t : ℕ × Carried). (done (t .0), sorted n (t .1 .v, t .1 .d) .0, sorted n (t .1 .v, t .1 .d) .1, t .1 .e)) (ran-once n limit edition (begun n x) r s)
-told-once n limit edition x o p (well r f) (at-mark2 s g) = absurd (whole-first n _ g (subst Whole (ap (λ (t : ℕ × Carried). t .1) (ran-once n limit edition (begun n x) r s)) f))
-told-once n limit edition x o p (well r f) (at-mark1 h s t) = never-halts n limit edition (begun n x) bad-not r h s t
-told-once n limit edition x o p (well r f) (at-limit h s t) = never-halts n limit edition (begun n x) used-not r h s t
-told-once n limit edition x o p (at-mark2 r f) (well s g) = absurd (whole-first n _ f (subst Whole (ap (λ (t : ℕ × Carried). t .1) (ran-once n limit edition (begun n x) s r)) g))
-told-once n limit edition x o p (at-mark2 {b = b} {i = i} r f) (at-mark2 {b = c} {i = j} {y = z} s g) =
+gives-once n limit edition x o p (well r f) (well s g) = ap (λ (t : ℕ × Carried). (done (t .0), sorted n (t .1 .v, t .1 .d) .0, sorted n (t .1 .v, t .1 .d) .1, t .1 .e)) (ran-once n limit edition (begun n x) r s)
+gives-once n limit edition x o p (well r f) (at-mark2 s g) = absurd (whole-first n _ g (subst Whole (ap (λ (t : ℕ × Carried). t .1) (ran-once n limit edition (begun n x) r s)) f))
+gives-once n limit edition x o p (well r f) (at-mark1 h s t) = never-halts n limit edition (begun n x) bad-not r h s t
+gives-once n limit edition x o p (well r f) (at-limit h s t) = never-halts n limit edition (begun n x) used-not r h s t
+gives-once n limit edition x o p (at-mark2 r f) (well s g) = absurd (whole-first n _ f (subst Whole (ap (λ (t : ℕ × Carried). t .1) (ran-once n limit edition (begun n x) s r)) g))
+gives-once n limit edition x o p (at-mark2 {b = b} {i = i} r f) (at-mark2 {b = c} {i = j} {y = z} s g) =
     let t = ran-once n limit edition (begun n x) r s in
     let q = one-first (list2 n z) b i c j (subst (λ (y : Carried). FirstIn (list2 n y) b i) (ap (λ (y : ℕ × Carried). y .1) t) f) g in
     λ k. (answered (q k .0) 2 (q k .1) (t k .0), t k .1 .v, t k .1 .d, t k .1 .e)
-told-once n limit edition x o p (at-mark2 r f) (at-mark1 h s t) = never-halts n limit edition (begun n x) bad-not r h s t
-told-once n limit edition x o p (at-mark2 r f) (at-limit h s t) = never-halts n limit edition (begun n x) used-not r h s t
-told-once n limit edition x o p (at-mark1 h s t) (well r f) = never-halts n limit edition (begun n x) bad-not r h s t
-told-once n limit edition x o p (at-mark1 h s t) (at-mark2 r f) = never-halts n limit edition (begun n x) bad-not r h s t
-told-once n limit edition x o p (at-mark1 h s t) (at-mark1 g u w) =
+gives-once n limit edition x o p (at-mark2 r f) (at-mark1 h s t) = never-halts n limit edition (begun n x) bad-not r h s t
+gives-once n limit edition x o p (at-mark2 r f) (at-limit h s t) = never-halts n limit edition (begun n x) used-not r h s t
+gives-once n limit edition x o p (at-mark1 h s t) (well r f) = never-halts n limit edition (begun n x) bad-not r h s t
+gives-once n limit edition x o p (at-mark1 h s t) (at-mark2 r f) = never-halts n limit edition (begun n x) bad-not r h s t
+gives-once n limit edition x o p (at-mark1 h s t) (at-mark1 g u w) =
     ap (λ (q : Halt). (answered (saw (q .2) .0) 1 (saw (q .2) .1) (q .1), q .3 .v, q .3 .d, q .3 .e)) (halt-once n limit edition (begun n x) bad-not bad-not s t u w)
-told-once n limit edition x o p (at-mark1 h s t) (at-limit g u w) = absurd (omega (arith, ap (λ (q : Halt). kind (q .2)) (halt-once n limit edition (begun n x) bad-not used-not s t u w)))
-told-once n limit edition x o p (at-limit h s t) (well r f) = never-halts n limit edition (begun n x) used-not r h s t
-told-once n limit edition x o p (at-limit h s t) (at-mark2 r f) = never-halts n limit edition (begun n x) used-not r h s t
-told-once n limit edition x o p (at-limit h s t) (at-mark1 g u w) = absurd (omega (arith, ap (λ (q : Halt). kind (q .2)) (halt-once n limit edition (begun n x) used-not bad-not s t u w)))
-told-once n limit edition x o p (at-limit h s t) (at-limit g u w) =
+gives-once n limit edition x o p (at-mark1 h s t) (at-limit g u w) = absurd (omega (arith, ap (λ (q : Halt). kind (q .2)) (halt-once n limit edition (begun n x) bad-not used-not s t u w)))
+gives-once n limit edition x o p (at-limit h s t) (well r f) = never-halts n limit edition (begun n x) used-not r h s t
+gives-once n limit edition x o p (at-limit h s t) (at-mark2 r f) = never-halts n limit edition (begun n x) used-not r h s t
+gives-once n limit edition x o p (at-limit h s t) (at-mark1 g u w) = absurd (omega (arith, ap (λ (q : Halt). kind (q .2)) (halt-once n limit edition (begun n x) used-not bad-not s t u w)))
+gives-once n limit edition x o p (at-limit h s t) (at-limit g u w) =
     ap (λ (q : Halt). (answered 9 (q .0) 0 (q .1), q .3 .v, q .3 .d, q .3 .e)) (halt-once n limit edition (begun n x) used-not used-not s t u w)
 
 -- ---- what a stop means
@@ -291,9 +291,9 @@ turned-within n limit edition l (by-passes p a) = looped-within n edition l _ a
 turned-within n limit edition l (by-mark p a) = looped-within n edition l _ a
 turned-within n limit edition l (by-limit p a) = looped-within n edition l _ a
 
--- what is told where the answer is 0 is document 000's `tql2`
-pub told-document : (n limit edition : ℕ) (x : Vec × Vec × Vec) (o : Ended) → Told n limit edition x o → o .0 .answer ≡ 0 → Doc.Tql2 n edition x (o .1, o .2, o .3)
-told-document n limit edition x o (well {y = y} r w) a = record { last = y; ran = ran-document n limit edition r; values = refl }
-told-document n limit edition x o (at-mark2 {b = b} {i = i} {y = y} r f) a = absurd (omega (arith, class-above (list2 n y) b i f))
-told-document n limit edition x o (at-mark1 {l = l} {b = b} {i = i} {z = z} h r t) a = absurd (omega (arith, class-above (list1 z) b i (mark1-sees n limit edition l t)))
-told-document n limit edition x o (at-limit h r t) a = absurd (omega arith)
+-- what a run gives where the answer is 0 is document 000's `tql2`
+pub gives-document : (n limit edition : ℕ) (x : Vec × Vec × Vec) (o : Ended) → RunGives n limit edition x o → o .0 .answer ≡ 0 → Doc.Tql2 n edition x (o .1, o .2, o .3)
+gives-document n limit edition x o (well {y = y} r w) a = record { last = y; ran = ran-document n limit edition r; values = refl }
+gives-document n limit edition x o (at-mark2 {b = b} {i = i} {y = y} r f) a = absurd (omega (arith, class-above (list2 n y) b i f))
+gives-document n limit edition x o (at-mark1 {l = l} {b = b} {i = i} {z = z} h r t) a = absurd (omega (arith, class-above (list1 z) b i (mark1-sees n limit edition l t)))
+gives-document n limit edition x o (at-limit h r t) a = absurd (omega arith)

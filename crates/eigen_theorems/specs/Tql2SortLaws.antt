@@ -15,7 +15,8 @@ use Rattle.grid.specs.Cell.{at2, put2}
 use Rattle.grid.specs.CellLaws.{put-here, put-elsewhere}
 use Rattle.leaves.specs.Leaf.{isFinite}
 use Rattle.leaves.specs.Compare.{lt-self, lt-chain, lt-turn}
-use Rattle.eigen_tql2.specs.Sort.{better, leastFrom, swapStep, swapped, sortStep, sorted}
+use Rattle.eigen_tql2.specs.Sort.{leastFrom, swapped, sortStep, sorted}
+use Rattle.eigen_tql2.specs.SortSteps.{better, swapStep}
 use Rattle.eigen_tql2.specs.declared.sort.Best.{Best}
 use Rattle.eigen_theorems.specs.Permutation.{Arranged, Ascends}
 

@@ -11,23 +11,12 @@ use Rattle.grid.specs.Cell.{at2, put2}
 use Rattle.eigen_tql2.specs.declared.sort.Best.{Best}
 
 -- the least of d from i on, and where it is
-abbrev pub better : Vec → ℕ → Best → Best
-better d j b = cond (lt (at d j) (b .p)) (record { k = j; p = at d j }) b
-
--- `better` for j = i + 1 .. n - 1, from i and d[i]
 unfoldable pub leastFrom : ℕ → ℕ → Vec → Best
-leastFrom n i d = upto (better d) (i + 1) n (record { k = i; p = at d i })
+leastFrom n i d = upto (λ j b. cond (lt (at d j) (b .p)) (record { k = j; p = at d j }) b) (i + 1) n (record { k = i; p = at d i })
 
 -- columns i and k of v change places
-abbrev pub swapStep : ℕ → ℕ → ℕ → ℕ → Vec → Vec
-swapStep n i k row v =
-    let x = at2 v n row i in
-    let y = at2 v n row k in
-    put2 (put2 v n row i y) n row k x
-
--- `swapStep` for row = 0 .. n - 1
 unfoldable pub swapped : ℕ → ℕ → ℕ → Vec → Vec
-swapped n i k v = upto (swapStep n i k) 0 n v
+swapped n i k v = upto (λ row v. let x = at2 v n row i in let y = at2 v n row k in put2 (put2 v n row i y) n row k x) 0 n v
 
 -- the least value from i on comes to i, and its column with it
 unfoldable pub sortStep : ℕ → ℕ → Vec × Vec → Vec × Vec

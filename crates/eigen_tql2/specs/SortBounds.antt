@@ -5,7 +5,8 @@ use Prim.Native.Nat.{ℕ, _+_, _<_}
 use lib.Ieee.{lt}
 use Rattle.grid.specs.LoopLaws.{upto-keeps}
 use Rattle.grid.specs.Real.{Vec, at}
-use Rattle.eigen_tql2.specs.Sort.{better, leastFrom}
+use Rattle.eigen_tql2.specs.Sort.{leastFrom}
+use Rattle.eigen_tql2.specs.SortSteps.{better}
 use Rattle.eigen_tql2.specs.declared.sort.Best.{Best}
 
 pub leastFrom-below : (n i : ℕ) (d : Vec) (b : Best) → i < n → b ≡ leastFrom n i d → b .k < n

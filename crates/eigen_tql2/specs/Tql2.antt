@@ -10,15 +10,9 @@ use Rattle.eigen_tql2.specs.RunOverL.{run}
 use Rattle.eigen_tql2.specs.Finish.{qlFinished}
 
 -- the subdiagonal stands one place lower from here on, and its last is 0
-abbrev pub upStep : ℕ → Vec → Vec
-upStep i e = set e (i - 1) (at e i)
-
--- `upStep` for i = 1 .. n - 1, and the last to 0
 unfoldable pub movedUp : ℕ → Vec → Vec
-movedUp n e = set (upto upStep 1 n e) (n - 1) zero64
+movedUp n e = set (upto (λ i e. set e (i - 1) (at e i)) 1 n e) (n - 1) zero64
 
--- ---- the whole: the answer, v, d and e
-
--- e moved up, the run over every l, and what it ends in
+-- the whole: the answer, v, d and e. e moved up, the run over every l, and what it ends in
 unfoldable pub tql2 : ℕ → ℕ → ℕ → Vec × Vec × Vec → Answer × Vec × Vec × Vec
 tql2 n limit edition (v, d, e) = qlFinished n (run n limit edition (fresh, v, d, movedUp n e))

@@ -2,7 +2,8 @@
 ghost use mathlib.Core.Path.{_≡_};
 ghost use Prim.Native.Nat.{_*_, _<_};
 ghost use lib.ListN.{length};
-ghost use Rattle.eigen_tql2.specs.Sort.{better, leastFrom, swapped, sortStep, sorted};
+ghost use Rattle.eigen_tql2.specs.Sort.{leastFrom, swapped, sortStep, sorted};
+ghost use Rattle.eigen_tql2.specs.SortSteps.{better};
 use grid::at;
 use grid::at1;
 use grid::put;

@@ -27,25 +27,18 @@ shift edition l d e =
     (g ⊖ dl, set (set d l dl) (l + 1) (el ⊗ q))
 
 -- d less h, from l + 2 on
-abbrev pub lessStep : Float → ℕ → Vec → Vec
-lessStep h i d = set d i (at d i ⊖ h)
-
--- `lessStep` for i = l + 2 .. n - 1
 unfoldable pub lessened : ℕ → ℕ → Float → Vec → Vec
-lessened n l h d = upto (lessStep h) (l + 2) n d
+lessened n l h d = upto (λ i d. set d i (at d i ⊖ h)) (l + 2) n d
 
 -- ---- the QL transformation
 
 -- columns i and i + 1 of v, turned by c and s
-abbrev pub rotStep : ℕ → ℕ → Float → Float → ℕ → Vec → Vec
-rotStep n i c s k v =
+unfoldable pub rotated : ℕ → ℕ → Float → Float → Vec → Vec
+rotated n i c s v =
+    upto (λ k v.
     let g = at2 v n k i in
     let h = at2 v n k (i + 1) in
-    put2 (put2 v n k (i + 1) (s ⊗ g ⊕ c ⊗ h)) n k i (c ⊗ g ⊖ s ⊗ h)
-
--- `rotStep` for k = 0 .. n - 1
-unfoldable pub rotated : ℕ → ℕ → Float → Float → Vec → Vec
-rotated n i c s v = upto (rotStep n i c s) 0 n v
+    put2 (put2 v n k (i + 1) (s ⊗ g ⊕ c ⊗ h)) n k i (c ⊗ g ⊖ s ⊗ h)) 0 n v
 
 -- one turn, at i
 unfoldable pub spin : ℕ → ℕ → ℕ → Spin × Vec × Vec × Vec → Spin × Vec × Vec × Vec

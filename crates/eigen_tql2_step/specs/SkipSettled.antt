@@ -11,13 +11,9 @@ use Rattle.eigen_tql2.specs.LStartEnd.{State, opened, ended, closed}
 abbrev pub nextL : Run → Run
 nextL r = record { l = r .l + 1; m = r .m; f = r .f; tst1 = r .tst1; passes = 0; count = r .count; stop = r .stop; index = r .index }
 
--- a run that has ended stays as it is
-unfoldable pub onward : Run → Run
-onward r = cond (not (eqb (r .stop) going)) r (nextL r)
-
--- the run onward, v, d and e as they are
+-- the run onward; one that has ended stays as it is
 abbrev pub goneOn : State → State
-goneOn (r, v, d, e) = (onward r, v, d, e)
+goneOn (r, v, d, e) = (cond (not (eqb (r .stop) going)) r (nextL r), v, d, e)
 
 -- the run comes to its l
 abbrev pub come : ℕ → State → State

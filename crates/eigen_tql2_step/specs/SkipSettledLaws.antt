@@ -1,6 +1,6 @@
 -- What the machine keeps of a run, and the loop that skips settled l. Laws only.
 use mathlib.Core.Path.{_≡_, refl, sym, ap, _∙_, subst}
-use mathlib.Core.Bool.{Bool, true, false, cond, not}
+use mathlib.Core.Bool.{Bool, true, false, cond, not, _&&_}
 use Prim.Native.Nat.{ℕ, zero, suc, _+_, _-_, _*_, _≤_, _<_, _^_}
 use native.Mathlib.Nat.{add-mul, mul-le-mul}
 use native.Mathlib.Omega.{arith}
@@ -8,11 +8,25 @@ use borrow.Author.Tests.{ltb-true, eqb-true, eqb-false}
 use lib.Dec.{ltb, eqb}
 use lib.ListN.{set}
 use Rattle.grid.specs.Real.{Vec, zero64, at, _⊕_}
+use Rattle.eigen_tql2_pass.specs.Pass.{going}
 use Rattle.eigen_tql2_pass.specs.declared.Run.{Run}
 use Rattle.eigen_tql2.specs.LStartEnd.{State, opened, ended, released, stopping, closed}
 use Rattle.eigen_tql2.specs.LStartEndBounds.{split-below}
-use Rattle.eigen_tql2_step.specs.SkipSettled.{nextL, onward, goneOn, come, skipped, foundL}
+use Rattle.eigen_tql2_step.specs.SkipSettled.{nextL, goneOn, come, skipped, foundL}
 use Rattle.eigen_tql2_step.specs.CheckLaws.{Open}
+
+-- ---- what the code's parts do; no promise speaks of these
+
+abbrev pub onward : Run → Run
+onward r = cond (not (eqb (r .stop) going)) r (nextL r)
+
+-- after a pass: more are to be run at this l
+abbrev pub undecided : ℕ → Run → Bool
+undecided limit r = eqb (r .stop) going && ltb (r .passes) limit
+
+-- else it has settled, or the limit is used up, or mark 1 has ended the run
+abbrev pub decided : ℕ → State → State
+decided limit x = cond (undecided limit (x .0)) x (goneOn (closed x))
 
 -- ---- a run that has ended, and one that goes on
 
@@ -20,11 +34,9 @@ pub going-on : (x : State) → x .0 .stop ≡ 0 → ended x ≡ false
 going-on x q = ap (λ (s : ℕ). not (eqb s 0)) q
 
 pub onward-ended : (x : State) → ended x ≡ true → goneOn x ≡ x
-unfolding onward
 onward-ended x e = λ i. (cond (e i) (x .0) (nextL (x .0)), x .1, x .2, x .3)
 
 pub onward-going : (x : State) → x .0 .stop ≡ 0 → goneOn x ≡ (nextL (x .0), x .1, x .2, x .3)
-unfolding onward
 onward-going x q = λ i. (cond (going-on x q i) (x .0) (nextL (x .0)), x .1, x .2, x .3)
 
 pub closed-settled : (x : State) → x .0 .stop ≡ 1 → closed x ≡ released x

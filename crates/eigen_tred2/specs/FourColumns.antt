@@ -2,7 +2,8 @@
 -- `dots` and `fourTurns` are what the code does on the way; no public promise cites them.
 use Prim.Native.Nat.{ℕ, _+_}
 use Rattle.grid.specs.Real.{Vec}
-use Rattle.eigen_tred2_definition.specs.Tred2.{columnDot, turnColumnStep}
+use Rattle.eigen_tred2_definition.specs.Tred2.{columnDot}
+use Rattle.eigen_tred2_definition.specs.Tred2Steps.{turnColumnStep}
 use Rattle.eigen_tred2.specs.declared.turn_columns.Four.{Four}
 
 unfoldable pub dots : ℕ → ℕ → ℕ → Vec → Four

@@ -14,7 +14,8 @@ use Rattle.grid.specs.Real.{Vec, zero64, one64, at, _⊕_, _⊖_, _⊗_, _⊘_}
 use Rattle.grid.specs.Cell.{at2, put2}
 use Rattle.grid.specs.CellLaws.{Sized}
 use Rattle.root.specs.Root.{root}
-use Rattle.eigen_tred2_definition.specs.Tred2.{scaleOf, skipStep, skipRow, overScale, clearStep, clear, against, generate, similarStep, similarColumn, similarityStep, similarity, overH, lessen, updateStep, updateColumn, updatesStep, updates, reflect, skip, reduce, householder, reduction, accumulation, copyLastStep, copyLast, moveLast, tred2}
+use Rattle.eigen_tred2_definition.specs.Tred2.{scaleOf, skipRow, overScale, clear, against, generate, similarColumn, similarity, overH, lessen, updateColumn, updates, reflect, skip, reduce, householder, reduction, accumulation, copyLast, moveLast, tred2}
+use Rattle.eigen_tred2_definition.specs.Tred2Steps.{skipStep, clearStep, similarStep, similarityStep, updateStep, updatesStep, copyLastStep}
 use Rattle.eigen_tred2_definition.specs.Agree.{Agree, stored, kept, fewer, whole, of-equal, beyond-end}
 
 -- The places of the matrix at which the two agree once columns i + 1 .. n - 1 are done, and of column i the first j rows.

@@ -7,7 +7,8 @@ use lib.ListN.{length, length-set}
 use Rattle.grid.specs.LoopLaws.{down-both}
 use Rattle.grid.specs.Real.{Vec, zero64}
 use Rattle.grid.specs.CellLaws.{upto-long}
-use Rattle.eigen_tred2_definition.specs.Tred2.{skipStep, skipRow, clearStep, clear, overScaleStep, overScale, generate, similarStep, similarColumn, similarityStep, similarity, overHStep, overH, lessenStep, lessen, updateStep, updateColumn, updatesStep, updates, reflect, skip, reduce, householder, reduction, columnOverStep, columnOver, takeStep, takeOff, turnColumnStep, turnColumns, clearColumnStep, clearColumn, apply, accumulate, accumulation, copyLastStep, copyLast, moveStep, moveLast, tred2}
+use Rattle.eigen_tred2_definition.specs.Tred2.{skipRow, clear, overScale, generate, similarColumn, similarity, overH, lessen, updateColumn, updates, reflect, skip, reduce, householder, reduction, columnOver, takeOff, turnColumns, clearColumn, apply, accumulate, accumulation, copyLast, moveLast, tred2}
+use Rattle.eigen_tred2_definition.specs.Tred2Steps.{skipStep, clearStep, overScaleStep, similarStep, similarityStep, overHStep, lessenStep, updateStep, updatesStep, columnOverStep, takeStep, turnColumnStep, clearColumnStep, copyLastStep, moveStep}
 
 -- ---- e through the reduction
 

@@ -13,7 +13,8 @@ use Rattle.grid.specs.Loop.{upto}
 use Rattle.grid.specs.LoopLaws.{upto-keeps, upto-both}
 use Rattle.grid.specs.Real.{Vec, at, zero64, one64, _⊕_, _⊖_, _⊗_, _⊘_}
 use Rattle.grid.specs.Cell.{at2, put2}
-use Rattle.eigen_tred2_definition.specs.Tred2.{columnOverStep, columnOver, columnDotStep, columnDot, takeStep, takeOff, turnColumnStep, turnColumns, clearColumnStep, clearColumn, apply, accumulate, accumulation}
+use Rattle.eigen_tred2_definition.specs.Tred2.{columnOver, columnDot, takeOff, turnColumns, clearColumn, apply, accumulate, accumulation}
+use Rattle.eigen_tred2_definition.specs.Tred2Steps.{columnOverStep, columnDotStep, takeStep, turnColumnStep, clearColumnStep}
 use Rattle.gain_path_theorems.specs.Numbers.{Number, zero-n}
 use Rattle.gain_path_theorems.specs.Places.{Places, place-set, place-as, Cells, cell-put, cell-as}
 use Rattle.gain_path_theorems.specs.ReductionScaled.{same-n, as-same, less}

@@ -27,7 +27,7 @@ use Rattle.eigen_tql2.specs.RunOverL.{iterated, stage, turn, run}
 use Rattle.eigen_tql2.specs.Sort.{leastFrom, swapped, sortStep, sorted}
 use Rattle.eigen_tql2.specs.Finish.{mark2, qlFinished}
 use Rattle.eigen_tql2.specs.Tql2.{movedUp, tql2}
-use Rattle.eigen_symmetric_eigen.specs.Layout.{copyRow, columns, mirrorRow, rows}
+use Rattle.eigen_symmetric_eigen.specs.Layout.{columns}
 use Rattle.eigen_symmetric_eigen.specs.AfterTred2.{mark0, afterTred}
 use Rattle.eigen_symmetric_eigen.specs.SymmetricEigen.{decomposed, given, eigenEntered, eigen}
 use Rattle.eigen_theorems.specs.Outcome.{Outcome}
@@ -39,11 +39,11 @@ use Rattle.gain_path_theorems.specs.EigenTest.{allFit, downsTest, runTes
 
 -- n by n: doubles, and a run that passes the test
 unfoldable pub tested : (Float → Bool) → Bool → ℕ → ℕ → ℕ → Vec → Bool
-unfolding fits ofBits neg add sub mul div lt le eq ne seek first every times upto down rounds drops fall table whole rootOf root magnitude larger isFinite hypotOf hypot classOf scan placeOf byRows rootOfSum hypot2 pythag tr.scaleOf tr.skipRow tr.overScale tr.clear tr.against tr.generate tr.similarColumn tr.similarity tr.overH tr.lessen tr.updateColumn tr.updates tr.reflect tr.skip tr.reduce tr.householder tr.reduction tr.columnOver tr.columnDot tr.takeOff tr.turnColumns tr.clearColumn tr.apply tr.accumulate tr.accumulation tr.copyLast tr.moveLast tr.tred2 signed shift lessened rotated spin spins landed transformed mark1 settled verdict pass split opened closed iterated stage turn movedUp copyRow columns mark0 scale isZero fine along roundsTest productTest allOf quotient hypotTest dropsTest tql2Test allFit downsTest runTest
+unfolding fits ofBits neg add sub mul div lt le eq ne seek first every times upto down rounds drops fall table whole rootOf root magnitude larger isFinite hypotOf hypot classOf scan placeOf byRows rootOfSum hypot2 pythag tr.scaleOf tr.skipRow tr.overScale tr.clear tr.against tr.generate tr.similarColumn tr.similarity tr.overH tr.lessen tr.updateColumn tr.updates tr.reflect tr.skip tr.reduce tr.householder tr.reduction tr.columnOver tr.columnDot tr.takeOff tr.turnColumns tr.clearColumn tr.apply tr.accumulate tr.accumulation tr.copyLast tr.moveLast tr.tred2 signed shift lessened rotated spin spins landed transformed mark1 settled verdict pass split opened closed iterated stage turn movedUp columns mark0 scale isZero fine along roundsTest productTest allOf quotient hypotTest dropsTest tql2Test allFit downsTest runTest
 tested ok lost n limit edition a = allFit a && runTest ok lost n limit edition a
 
 unfoldable pub outcome : ℕ → ℕ → ℕ → Vec → Outcome
-unfolding ofBits neg add sub mul div lt le eq ne seek first times upto down rounds drops fall table whole rootOf root magnitude larger isFinite hypotOf hypot classOf scan placeOf lowerOf firstBadLower byRows rootOfSum hypot2 pythag limitGood editionGood lengths fittingEdition tr.scaleOf tr.skipRow tr.overScale tr.clear tr.against tr.generate tr.similarColumn tr.similarity tr.overH tr.lessen tr.updateColumn tr.updates tr.reflect tr.skip tr.reduce tr.householder tr.reduction tr.columnOver tr.columnDot tr.takeOff tr.turnColumns tr.clearColumn tr.apply tr.accumulate tr.accumulation tr.copyLast tr.moveLast tr.tred2 signed shift lessened rotated spin spins landed transformed mark1 settled verdict pass split opened closed iterated stage turn run leastFrom swapped sortStep sorted mark2 qlFinished movedUp tql2 copyRow columns mirrorRow rows mark0 afterTred decomposed given eigenEntered eigen scale
+unfolding ofBits neg add sub mul div lt le eq ne seek first times upto down rounds drops fall table whole rootOf root magnitude larger isFinite hypotOf hypot classOf scan placeOf lowerOf firstBadLower byRows rootOfSum hypot2 pythag limitGood editionGood lengths fittingEdition tr.scaleOf tr.skipRow tr.overScale tr.clear tr.against tr.generate tr.similarColumn tr.similarity tr.overH tr.lessen tr.updateColumn tr.updates tr.reflect tr.skip tr.reduce tr.householder tr.reduction tr.columnOver tr.columnDot tr.takeOff tr.turnColumns tr.clearColumn tr.apply tr.accumulate tr.accumulation tr.copyLast tr.moveLast tr.tred2 signed shift lessened rotated spin spins landed transformed mark1 settled verdict pass split opened closed iterated stage turn run leastFrom swapped sortStep sorted mark2 qlFinished movedUp tql2 columns mark0 afterTred decomposed given eigenEntered eigen scale
 outcome n limit edition a = eigen n limit edition a (zeros n) (zeros (n + n * n))
 
 -- what the theorem says of a matrix and of 2 ^ k times it

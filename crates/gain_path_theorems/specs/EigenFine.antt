@@ -18,7 +18,7 @@ use Rattle.gain_path_theorems.specs.Tql2Fine.{Tql2Fine}
 
 -- the run of a matrix, `decomposed`: `tred2` of its columns, and `tql2` where mark 0 lets it go on
 pub record RunFine (n limit edition : ℕ) (matrix : Vec) : Type 0 where
-  pub reduces : Tred2Fine n (columns n matrix (zeros (n * n)), zeros n, zeros n)
+  pub reduces : Tred2Fine n (columns n matrix, zeros n, zeros n)
   pub iterates : isBad (mark0 n (reduced n matrix .0) (reduced n matrix .1) (reduced n matrix .2)) ≡ false → Tql2Fine n limit edition (reduced n matrix)
 
 -- the call: where it passes checks 1, 2, 12, 6 and 7, its run

@@ -3,20 +3,20 @@ use mathlib.Core.Path.{_≡_, refl, sym, ap, ap₂, _∙_, subst, subst₂}
 use mathlib.Core.Bool.{Bool, true, false, cond, not, true≢false}
 use mathlib.Core.List.{_++_, map}
 use mathlib.Core.Logic.{_⊎_, inl, inr, ⊎-elim}
-use Prim.Native.Nat.{ℕ, suc, _+_, _*_, _-_, _≤_, _<_}
+use Prim.Native.Nat.{ℕ, suc, _+_, _*_, _-_, _/_, _%_, _≤_, _<_}
 use native.Mathlib.Omega.{arith}
 use borrow.Author.Tests.{ltb-true, ltb-false, eqb-true, eqb-false, eq-eqb, ne-eqb}
 use lib.Dec.{ltb, leb, eqb}
 use lib.IntN.{ℤ, pos, negsuc}
 use lib.Ieee.{Float, nan}
-use lib.ListN.{length, length-map, length-append, length-replicate, List·getD-append}
+use lib.ListN.{length, length-map, length-append, length-replicate, List·getD-append, List·getD-eq-default}
 use lib.Seq.{getD-append-add}
-use Rattle.grid.specs.LoopLaws.{upto-keeps}
 use Rattle.grid.specs.Real.{Vec, at, zero64, zeros}
-use Rattle.grid.specs.Cell.{entry}
-use Rattle.grid.specs.TableLaws.{zeros-table}
+use Rattle.grid.specs.Table.{table}
+use Rattle.grid.specs.TableLaws.{length-table, at-table, zeros-table}
 use Rattle.leaves.specs.Leaf.{isFinite}
-use Rattle.leaves.specs.Scan.{isBad, classOf, scan, placeOf, lowerOf, lowerAt, firstBad, firstBadLower, byRows}
+use Rattle.leaves.specs.Scan.{isBad, classOf, scan, placeOf, lowerOf, firstBad, firstBadLower, byRows}
+use Rattle.leaves.specs.ScanLaws.{lowerAt}
 use Rattle.leaves.specs.FiniteLaws.{lower-finite}
 use Rattle.answers.specs.Answers.{refused, done, passed, refusal7, marked}
 use Rattle.answers.specs.OutcomeLaws.{none-seven}
@@ -25,25 +25,24 @@ use Rattle.answers.specs.Checks.{limitGood, fittingEdition}
 use Rattle.answers.specs.ChecksLaws.{limit-right}
 use Rattle.answers.specs.EditionLaws.{fitting-edition-right}
 use Rattle.eigen_tql2.specs.Tql2.{tql2}
-use Rattle.eigen_symmetric_eigen.specs.Layout.{copyRowStep, copyRow, columns, rows}
+use Rattle.eigen_symmetric_eigen.specs.Layout.{columns}
 use Rattle.eigen_symmetric_eigen.specs.LayoutLaws.{columns-long}
 use Rattle.eigen_symmetric_eigen.specs.AfterTred2.{mark0, afterTred}
 use Rattle.eigen_symmetric_eigen.specs.SymmetricEigen.{decomposed, cleared, given, eigenEntered, eigen}
 use Rattle.eigen_theorems.specs.Outcome.{Outcome, Promised, Taken, reduced}
 use Rattle.eigen_theorems.specs.OutcomeLaws.{square, diagonal, beside}
 use Rattle.eigen_theorems.specs.Tql2Lengths.{ran-long}
-use Rattle.eigen_theorems.specs.Tql2Marks.{told}
-use Rattle.eigen_theorems.specs.Tql2Outcome.{list1, list2, Told, well, at-mark2, at-mark1, at-limit}
+use Rattle.eigen_theorems.specs.Tql2Marks.{run-gives}
+use Rattle.eigen_theorems.specs.Tql2Outcome.{list1, list2, RunGives, well, at-mark2, at-mark1, at-limit}
 use Rattle.eigen_theorems.specs.Tql2OutcomeLaws.{class-above, mark1-sees, ran-document}
 use Rattle.eigen_theorems.specs.Tql2SortLaws.{sorted-arranged}
 use Rattle.svd_gain_theorems.specs.Scale.{scale, Scaled}
 use Rattle.svd_gain_theorems.specs.Alike.{Alike, under}
 use Rattle.svd_gain_theorems.specs.AlikeLaws.{under-in, under-out, equally, powered}
-use Rattle.svd_gain_theorems.specs.Turn.{zero-fits}
 use Rattle.svd_gain_theorems.specs.Found.{match, scan-match, bad-same, both-same}
 use Rattle.svd_gain_theorems.specs.Out.{zeros-alike}
 use Rattle.svd_gain_theorems.specs.Gain.{scale-back, at-map, Results, values-of, factors-of, results-up, results-down}
-use Rattle.gain_path_theorems.specs.Numbers.{Doubles, Pair, pair-set, pair-at, table-fits}
+use Rattle.gain_path_theorems.specs.Numbers.{Number, Doubles, Pair, pair-at, zero-n, table-fits}
 use Rattle.gain_path_theorems.specs.Tred2Scaled.{tred2-scaled}
 use Rattle.gain_path_theorems.specs.Tred2Fine.{Reduced}
 use Rattle.gain_path_theorems.specs.Tql2Fine.{Tql2Fine}
@@ -52,22 +51,32 @@ use Rattle.gain_path_theorems.specs.EigenFine.{RunFine, EigenFine, Untou
 
 -- ---- in: zeros, and the matrix column by column
 
-zeros-fit : (n : ℕ) → Doubles (zeros n)
-zeros-fit n = subst Doubles (sym (zeros-table n)) (table-fits (λ j. zero64) n (λ _. zero-fits))
+table-pair : (k : ℕ) (f g : ℕ → Float) (n : ℕ) → ((i : ℕ) → Number k (f i) (g i)) → Pair k (table f n) (table g n)
+unfolding scale
+table-pair k f g n h = record {
+  alike = record { long = length-table g n ∙ sym (length-table f n); each = λ i. go i (ltb i n) refl };
+  first = table-fits f n (λ i. h i .first);
+  second = table-fits g n (λ i. h i .second);
+}
+  where
+    out : (f : ℕ → Float) (i : ℕ) → n ≤ i → at (table f n) i ≡ nan
+    out f i l = List·getD-eq-default (table f n) nan (omega (arith, length-table f n))
+
+    go : (i : ℕ) (b : Bool) → ltb i n ≡ b → Scaled k (at (table f n) i) (at (table g n) i)
+    go i true e = rw (at-table f n i (ltb-true i n e), at-table g n i (ltb-true i n e)) (h i .is)
+    go i false e = rw (out f i (ltb-false i n e), out g i (ltb-false i n e))
 
 zeros-pair : (k n : ℕ) → Pair k (zeros n) (zeros n)
-zeros-pair k n = record { alike = zeros-alike (λ i. k) n; first = zeros-fit n; second = zeros-fit n }
+zeros-pair k n = subst (λ (z : Vec). Pair k z z) (sym (zeros-table n)) (table-pair k (λ j. zero64) (λ j. zero64) n (λ _. zero-n k))
 
-columns-pair : (k n : ℕ) (a b v w : Vec) → Pair k a b → Pair k v w → Pair k (columns n a v) (columns n b w)
-unfolding columns copyRow
-columns-pair k n a b v w P Q =
-    upto-keeps (Pair k) (copyRow n a) (copyRow n b) 0 n v w
-    (λ i x y _ _. upto-keeps (Pair k) (copyRowStep n a i) (copyRowStep n b i) 0 n x y (λ j x y _ _ r. pair-set k x y (j * n + i) (entry a n i j) r (pair-at k a b (i * n + j) P))) Q
+columns-pair : (k n : ℕ) (a b : Vec) → Pair k a b → Pair k (columns n a) (columns n b)
+unfolding columns
+columns-pair k n a b P = table-pair k _ _ (n * n) (λ i. pair-at k a b (i % n * n + i / n) P)
 
 -- ---- what is looked at: the lower triangle, and at mark 0 d, e and v
 
 lower-scaled : (k n : ℕ) (a b : Vec) → Alike (λ i. k) a b → firstBadLower n b ≡ firstBadLower n a
-unfolding firstBadLower lowerOf
+unfolding firstBadLower lowerOf placeOf
 lower-scaled k n a b h =
     let m = match (λ i. k) a b h in
     ap (scan (lowerAt n b)) (h .long) ∙ scan-match (lowerAt n a) (lowerAt n b) (length a) (λ i. below isFinite i (m .finite i)) (λ i. below classOf i (m .class i))
@@ -107,15 +116,15 @@ after-scaled k n limit edition (v, d, e) (v', d', e') r F F' = go (isBad (mark0 
         (tql2-scaled k n limit edition v d e d' e' (r .d) (r .e) (F p) (subst (λ (w : Vec). Tql2Fine n limit edition (w, d', e')) (r .v) (F' (ap isBad same ∙ p)))))
 
 -- where a run is done it has n values
-told-long : (n limit edition : ℕ) (x : Vec × Vec × Vec) (o : Answer × Vec × Vec × Vec) → length (x .0) ≡ n * n → length (x .1) ≡ n → Told n limit edition x o → o .0 .answer ≡ 0
+gives-long : (n limit edition : ℕ) (x : Vec × Vec × Vec) (o : Answer × Vec × Vec × Vec) → length (x .0) ≡ n * n → length (x .1) ≡ n → RunGives n limit edition x o → o .0 .answer ≡ 0
     → length (o .2) ≡ n
-told-long n limit edition x o s l (well {y = y} r w) z =
+gives-long n limit edition x o s l (well {y = y} r w) z =
     let long = ran-long n edition (ran-document n limit edition r) in
     let values : length (y .d) ≡ n = long .values ∙ l in
     sorted-arranged n (y .v, y .d) (long .vectors ∙ s) values (λ k q. w .values k (omega arith)) .long
-told-long n limit edition x o s l (at-mark2 {b = b} {i = i} {y = y} r f) z = absurd (omega (arith, class-above (list2 n y) b i f))
-told-long n limit edition x o s l (at-mark1 {l = t} {b = b} {i = i} {z = y} h r u) z = absurd (omega (arith, class-above (list1 y) b i (mark1-sees n limit edition t u)))
-told-long n limit edition x o s l (at-limit h r t) z = absurd (omega arith)
+gives-long n limit edition x o s l (at-mark2 {b = b} {i = i} {y = y} r f) z = absurd (omega (arith, class-above (list2 n y) b i f))
+gives-long n limit edition x o s l (at-mark1 {l = t} {b = b} {i = i} {z = y} h r u) z = absurd (omega (arith, class-above (list1 y) b i (mark1-sees n limit edition t u)))
+gives-long n limit edition x o s l (at-limit h r t) z = absurd (omega arith)
 
 after-long : (n limit edition : ℕ) (a : Vec) → 0 < n → passed (afterTred n limit edition (reduced n a) .0) ≡ true → length (afterTred n limit edition (reduced n a) .2) ≡ n
 unfolding afterTred
@@ -129,7 +138,7 @@ after-long n limit edition a s = go (isBad (mark0 n (x .0) (x .1) (x .2)))
 
     go : (b : Bool) → passed (o b .0) ≡ true → length (o b .2) ≡ n
     go true p = diagonal n a
-    go false p = told-long n limit edition x (tql2 n limit edition x) (square n a) (diagonal n a) (told n limit edition x s (square n a) (beside n a)) (eqb-true _ 0 p)
+    go false p = gives-long n limit edition x (tql2 n limit edition x) (square n a) (diagonal n a) (run-gives n limit edition x s (square n a) (beside n a)) (eqb-true _ 0 p)
 
 -- ---- out
 
@@ -165,12 +174,12 @@ unfolding given
 given-scaled k n (x, v, d, e) (x', v', d', e') h long = go (passed x) refl
   where
     end : Answer → Vec → Vec → Outcome
-    end x v d = cond (passed x) (x, zeros n, d ++ rows n v) (cleared n x)
+    end x v d = cond (passed x) (x, zeros n, d ++ byRows n v) (cleared n x)
 
     go : (b : Bool) → passed x ≡ b → Both k n (Emptied n (end x v d) × Emptied n (end x' v' d')) (end x v d) (end x' v' d')
     go true p =
         rw (ap passed (h .answers), p)
-        (record { answers = h .answers; results = λ _. rw (h .v) (laid-alike k n d d' (rows n v) (long p) (h .d)); others = λ z. absurd (true≢false (sym p ∙ z)) })
+        (record { answers = h .answers; results = λ _. rw (h .v) (laid-alike k n d d' (byRows n v) (long p) (h .d)); others = λ z. absurd (true≢false (sym p ∙ z)) })
     go false p = rw (ap passed (h .answers), p) (record { answers = h .answers; results = λ z. absurd (true≢false (sym z ∙ p)); others = λ _. ((refl, refl), (refl, refl)) })
 
 -- ---- up
@@ -207,16 +216,15 @@ choose k n false true z c c' d d' o o' w r w' r' e f h = go (passed c) refl (pas
 module _ (k n limit edition : ℕ) (a b work work' result result' : Vec) (P : Pair k a b) (works : length work' ≡ length work) (results : length result' ≡ length result) where
   ran : Vec → Outcome
   unfolding decomposed
-  ran a = given n (decomposed n limit edition a (zeros (n * n), zeros n, zeros n))
+  ran a = given n (decomposed n limit edition a (zeros n, zeros n))
 
   run-scaled : 0 < n → RunFine n limit edition a → RunFine n limit edition b → Both k n (Emptied n (ran a) × Emptied n (ran b)) (ran a) (ran b)
   unfolding ran
   run-scaled s F F' =
-      let v : Vec = zeros (n * n) in
       let long : length (zeros n) ≡ n = length-replicate n zero64 in
       let r : Reduced k (reduced n a) (reduced n b) =
-      tred2-scaled n k s (columns n a v) (columns n b v) (zeros n) (zeros n) (zeros n) (zeros n) (columns-pair k n a b v v P (zeros-pair k (n * n))) (zeros-pair k n)
-      (columns-long n a v (length-replicate (n * n) zero64)) long long (F .reduces) (F' .reduces) in
+      tred2-scaled n k s (columns n a) (columns n b) (zeros n) (zeros n) (zeros n) (zeros n) (columns-pair k n a b P) (zeros-pair k n)
+      (columns-long n a) long long (F .reduces) (F' .reduces) in
       given-scaled k n _ _ (after-scaled k n limit edition (reduced n a) (reduced n b) r (F .iterates) (F' .iterates)) (after-long n limit edition a s)
 
   up : EigenFine n limit edition a work result → EigenFine n limit edition b work' result'

@@ -1,13 +1,14 @@
 -- What `gain-keeps-eigenvectors` asks of a run, as a test that can be computed: of `tred2`, and of `tql2` behind it (`Tql2Test`, which says what ok and lost are). Definitions only.
 use mathlib.Core.Bool.{Bool, true, _&&_, _||_}
 use mathlib.Core.List.{List, [], _∷_}
-use Prim.Native.Nat.{ℕ, zero, suc, _+_, _*_, _-_}
+use Prim.Native.Nat.{ℕ, zero, suc, _+_, _-_}
 use lib.Ieee.{Float, binary64, fits, eq}
 use Rattle.grid.specs.Real.{Vec, at, zero64, zeros, _⊕_, _⊖_, _⊗_, _⊘_}
 use Rattle.grid.specs.Cell.{at2, put2}
 use Rattle.leaves.specs.Leaf.{magnitude}
 use Rattle.leaves.specs.Scan.{isBad}
-use Rattle.eigen_tred2_definition.specs.Tred2.{scaleStep, scaleOf, similarStep, similarityStep, overHStep, lessenStep, updateStep, updatesStep, householder, copyLast}
+use Rattle.eigen_tred2_definition.specs.Tred2.{scaleOf, householder, copyLast}
+use Rattle.eigen_tred2_definition.specs.Tred2Steps.{scaleStep, similarStep, similarityStep, overHStep, lessenStep, updateStep, updatesStep}
 use Rattle.eigen_symmetric_eigen.specs.Layout.{columns}
 use Rattle.eigen_symmetric_eigen.specs.AfterTred2.{mark0}
 use Rattle.eigen_theorems.specs.Outcome.{reduced}
@@ -76,6 +77,6 @@ module _ (ok : Float → Bool) (lost : Bool) where
   -- the run
   unfoldable pub runTest : ℕ → ℕ → ℕ → Vec → Bool
   runTest n limit edition matrix =
-      let x : Vec × Vec × Vec = (columns n matrix (zeros (n * n)), zeros n, zeros n) in
+      let x : Vec × Vec × Vec = (columns n matrix, zeros n, zeros n) in
       let y = reduced n matrix in
       downsTest n (n - 1) (x .0, copyLast n (x .0) (x .1), x .2) && (isBad (mark0 n (y .0) (y .1) (y .2)) || tql2Test ok lost n limit edition y)

@@ -1,7 +1,7 @@
 -- A run that passes the test is one that `gain-keeps-eigenvectors` asks for. Laws only.
 use mathlib.Core.Bool.{false}
 use mathlib.Core.List.{[], _∷_}
-use Prim.Native.Nat.{ℕ, zero, suc, _+_, _*_, _-_}
+use Prim.Native.Nat.{ℕ, zero, suc, _+_, _-_}
 use lib.Dec.{T}
 use lib.Ieee.{Float, binary64, fits, eq}
 use lib.Ieee.Fits.{nan-fits, and-l, and-r}
@@ -9,7 +9,8 @@ use Rattle.grid.specs.Real.{Vec, at, zero64, zeros, _⊕_, _⊗_, _⊘_}
 use Rattle.grid.specs.Cell.{at2, put2}
 use Rattle.leaves.specs.Leaf.{magnitude}
 use Rattle.leaves.specs.Scan.{isBad}
-use Rattle.eigen_tred2_definition.specs.Tred2.{scaleStep, scaleOf, similarStep, similarityStep, overHStep, lessenStep, updateStep, updatesStep, householder, copyLast}
+use Rattle.eigen_tred2_definition.specs.Tred2.{scaleOf, householder, copyLast}
+use Rattle.eigen_tred2_definition.specs.Tred2Steps.{scaleStep, similarStep, similarityStep, overHStep, lessenStep, updateStep, updatesStep}
 use Rattle.eigen_symmetric_eigen.specs.Layout.{columns}
 use Rattle.eigen_symmetric_eigen.specs.AfterTred2.{mark0}
 use Rattle.eigen_theorems.specs.Outcome.{reduced}
@@ -99,7 +100,7 @@ of-downs n (suc i) x t =
 pub run-test : (n limit edition : ℕ) (matrix : Vec) → T (runTest fine false n limit edition matrix) → RunFine n limit edition matrix
 unfolding runTest
 run-test n limit edition matrix t =
-    let v = columns n matrix (zeros (n * n)) in
+    let v = columns n matrix in
     let y = reduced n matrix in
     let b = downsTest fine false n (n - 1) (v, copyLast n v (zeros n), zeros n) in
     record {

@@ -9,7 +9,8 @@ use Rattle.grid.specs.Real.{Vec, at, one64, two64, epsilon, _⊕_, _⊖_, _⊗_
 use Rattle.hypot.specs.Edition.{pythag}
 use Rattle.eigen_tql2_pass.specs.declared.ql_transformation.Spin.{Spin}
 use Rattle.eigen_tql2_pass.specs.declared.Run.{Run}
-use Rattle.eigen_tql2_pass.specs.Transform.{signed, shift, lessStep, lessened, spin, spins, still, transformed}
+use Rattle.eigen_tql2_pass.specs.Transform.{signed, shift, lessened, spin, spins, still, transformed}
+use Rattle.eigen_tql2_pass.specs.TransformSteps.{lessStep}
 use Rattle.svd_gain_theorems.specs.Scale.{fine, Product, Quotient}
 use Rattle.svd_gain_theorems.specs.Along.{Along}
 use Rattle.gain_path_theorems.specs.HypotFine.{HypotFine}

@@ -17,7 +17,8 @@ use Rattle.hypot.specs.Edition.{pythag}
 use Rattle.eigen_tql2_pass.specs.declared.ql_transformation.Spin.{Spin}
 use Rattle.eigen_tql2_pass.specs.declared.Run.{Run}
 use Rattle.eigen_tql2_pass.specs.declared.Reason.{Reason}
-use Rattle.eigen_tql2_pass.specs.Transform.{signed, shift, lessStep, lessened, rotated, spin, spins, still, landed, transformed}
+use Rattle.eigen_tql2_pass.specs.Transform.{signed, shift, lessened, rotated, spin, spins, still, landed, transformed}
+use Rattle.eigen_tql2_pass.specs.TransformSteps.{lessStep}
 use Rattle.eigen_tql2_pass.specs.Pass.{tiny, mark1, settled, judged, verdict, afterPass, pass, going, converged}
 use Rattle.svd_gain_theorems.specs.Scale.{fine, Product, Quotient}
 use Rattle.svd_gain_theorems.specs.Along.{Along}

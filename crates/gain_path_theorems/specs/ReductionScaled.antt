@@ -15,7 +15,8 @@ use Rattle.grid.specs.Real.{Vec, at, zero64, _⊕_, _⊖_, _⊗_, _⊘_}
 use Rattle.grid.specs.Cell.{at2, put2}
 use Rattle.root.specs.Root.{root}
 use Rattle.leaves.specs.Leaf.{magnitude}
-use Rattle.eigen_tred2_definition.specs.Tred2.{scaleStep, scaleOf, skipStep, skipRow, overScaleStep, overScale, clearStep, clear, against, generate, similarStep, similarColumn, similarityStep, similarity, overHStep, overH, lessenStep, lessen, updateStep, updateColumn, updatesStep, updates, reflect, skip, reduce, householder}
+use Rattle.eigen_tred2_definition.specs.Tred2.{scaleOf, skipRow, overScale, clear, against, generate, similarColumn, similarity, overH, lessen, updateColumn, updates, reflect, skip, reduce, householder}
+use Rattle.eigen_tred2_definition.specs.Tred2Steps.{scaleStep, skipStep, overScaleStep, clearStep, similarStep, similarityStep, overHStep, lessenStep, updateStep, updatesStep}
 use Rattle.svd_gain_theorems.specs.Scale.{fine, Product}
 use Rattle.svd_gain_theorems.specs.ScaleLaws.{scale-none}
 use Rattle.svd_gain_theorems.specs.Along.{Along}

@@ -22,9 +22,11 @@ use Rattle.eigen_tql2_pass.specs.Pass.{tiny, going, converged, limitUsed, pass}
 use Rattle.eigen_tql2_pass.specs.declared.Run.{Run}
 use Rattle.eigen_tql2.specs.LStartEnd.{State, fresh, stopping, split, opened, ended, released, closed}
 use Rattle.eigen_tql2.specs.RunOverL.{iterated, stage, turn, run}
-use Rattle.eigen_tql2.specs.Sort.{better, leastFrom, swapped, sortStep, sorted}
+use Rattle.eigen_tql2.specs.Sort.{leastFrom, swapped, sortStep, sorted}
+use Rattle.eigen_tql2.specs.SortSteps.{better}
 use Rattle.eigen_tql2.specs.Finish.{mark2, qlFinished}
-use Rattle.eigen_tql2.specs.Tql2.{upStep, movedUp, tql2}
+use Rattle.eigen_tql2.specs.Tql2.{movedUp, tql2}
+use Rattle.eigen_tql2.specs.Tql2Steps.{upStep}
 use Rattle.eigen_tql2.specs.declared.sort.Best.{Best}
 use Rattle.svd_gain_theorems.specs.Scale.{scale, fine}
 use Rattle.svd_gain_theorems.specs.Along.{Along, Rounds}

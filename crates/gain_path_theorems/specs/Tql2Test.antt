@@ -10,7 +10,8 @@ use Rattle.leaves.specs.Leaf.{magnitude}
 use Rattle.hypot.specs.Edition.{pythag}
 use Rattle.eigen_tql2_pass.specs.declared.ql_transformation.Spin.{Spin}
 use Rattle.eigen_tql2_pass.specs.declared.Run.{Run}
-use Rattle.eigen_tql2_pass.specs.Transform.{shift, lessStep, lessened, spin, spins, still, transformed}
+use Rattle.eigen_tql2_pass.specs.Transform.{shift, lessened, spin, spins, still, transformed}
+use Rattle.eigen_tql2_pass.specs.TransformSteps.{lessStep}
 use Rattle.eigen_tql2_pass.specs.Pass.{pass, converged}
 use Rattle.eigen_tql2.specs.LStartEnd.{State, fresh, opened, ended}
 use Rattle.eigen_tql2.specs.RunOverL.{turn}

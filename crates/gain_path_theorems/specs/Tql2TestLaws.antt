@@ -12,7 +12,8 @@ use Rattle.grid.specs.Real.{Vec, at, _⊖_, _⊘_}
 use Rattle.hypot.specs.Edition.{pythag}
 use Rattle.eigen_tql2_pass.specs.declared.ql_transformation.Spin.{Spin}
 use Rattle.eigen_tql2_pass.specs.declared.Run.{Run}
-use Rattle.eigen_tql2_pass.specs.Transform.{lessStep, spin}
+use Rattle.eigen_tql2_pass.specs.Transform.{spin}
+use Rattle.eigen_tql2_pass.specs.TransformSteps.{lessStep}
 use Rattle.eigen_tql2_pass.specs.Pass.{pass, converged}
 use Rattle.eigen_tql2.specs.LStartEnd.{State, fresh, ended}
 use Rattle.eigen_tql2.specs.RunOverL.{turn}

@@ -9,7 +9,8 @@ use Rattle.grid.specs.Real.{Vec, at, zero64, _⊕_, _⊖_, _⊗_, _⊘_}
 use Rattle.grid.specs.Cell.{at2, put2}
 use Rattle.root.specs.Root.{root}
 use Rattle.leaves.specs.Leaf.{magnitude}
-use Rattle.eigen_tred2_definition.specs.Tred2.{scaleStep, scaleOf, overScale, against, generate, similarStep, similarityStep, similarity, overHStep, overH, lessenStep, lessen, updateStep, updatesStep, updates, householder, copyLast}
+use Rattle.eigen_tred2_definition.specs.Tred2.{scaleOf, overScale, against, generate, similarity, overH, lessen, updates, householder, copyLast}
+use Rattle.eigen_tred2_definition.specs.Tred2Steps.{scaleStep, similarStep, similarityStep, overHStep, lessenStep, updateStep, updatesStep}
 use Rattle.svd_gain_theorems.specs.Scale.{fine, Product, Quotient}
 use Rattle.svd_gain_theorems.specs.Along.{Along}
 use Rattle.gain_path_theorems.specs.Numbers.{Pair}

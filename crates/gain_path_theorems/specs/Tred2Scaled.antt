@@ -15,7 +15,8 @@ use Rattle.grid.specs.Real.{Vec, at, zero64, one64}
 use Rattle.grid.specs.Cell.{at2, put2}
 use Rattle.grid.specs.CellLaws.{upto-long}
 use Rattle.eigen_tred2_definition.specs.Sizes.{tred2-diagonal, tred2-square}
-use Rattle.eigen_tred2_definition.specs.Tred2.{copyLastStep, copyLast, moveStep, moveLast, householder, reduction, accumulation, tred2}
+use Rattle.eigen_tred2_definition.specs.Tred2.{copyLast, moveLast, householder, reduction, accumulation, tred2}
+use Rattle.eigen_tred2_definition.specs.Tred2Steps.{copyLastStep, moveStep}
 use Rattle.gain_path_theorems.specs.Numbers.{Number, Pair, pair-set, pair-at, zero-n}
 use Rattle.gain_path_theorems.specs.Places.{Places, place-set, place-as, Cells, cell-put, cell-as, nan-n}
 use Rattle.gain_path_theorems.specs.Tred2Fine.{Tred2Fine, Reduced}

@@ -13,29 +13,17 @@ use Rattle.root.specs.Root.{root}
 abbrev pub columnOf : ℕ → ℕ → Vec → ℕ → Vec
 columnOf m k q j = table (λ row. entry q k row j) m
 
--- the sum, and the product of b and c at this row
-abbrev pub dotStep : Vec → Vec → ℕ → Float → Float
-dotStep b c row acc = acc ⊕ at b row ⊗ at c row
-
 -- b times c, summed from row 0 on, starting at +0.0
 unfoldable pub dot : ℕ → Vec → Vec → Float
-dot m b c = upto (dotStep b c) 0 m zero64
-
--- c less proj times b, at this row
-abbrev pub lessStep : Float → Vec → ℕ → Vec → Vec
-lessStep proj b row c = set c row (at c row ⊖ proj ⊗ at b row)
+dot m b c = upto (λ row acc. acc ⊕ at b row ⊗ at c row) 0 m zero64
 
 -- c less proj times b, row by row
 unfoldable pub lessened : ℕ → Float → Vec → Vec → Vec
-lessened m proj b c = upto (lessStep proj b) 0 m c
-
--- c against column i
-abbrev pub lessColumn : ℕ → ℕ → Vec → ℕ → Vec → Vec
-lessColumn m k q i c = lessened m (dot m (columnOf m k q i) c) (columnOf m k q i) c
+lessened m proj b c = upto (λ row c. set c row (at c row ⊖ proj ⊗ at b row)) 0 m c
 
 -- column c against the columns before j
 unfoldable pub lessColumns : ℕ → ℕ → ℕ → Vec → Vec → Vec
-lessColumns m k j q c = upto (lessColumn m k q) 0 j c
+lessColumns m k j q c = upto (λ i c. lessened m (dot m (columnOf m k q i) c) (columnOf m k q i) c) 0 j c
 
 -- twice: the second takes what the first left
 unfoldable pub lessColumnsTwice : ℕ → ℕ → ℕ → Vec → Vec → Vec

@@ -11,25 +11,17 @@ use Rattle.answers.specs.declared.Answer.{Answer}
 use Rattle.leaves.specs.Leaf.{isFinite}
 use Rattle.leaves.specs.Scan.{classOf}
 
--- c over `by`, at this row
-abbrev pub overStep : Float → ℕ → Vec → Vec
-overStep by row c = set c row (at c row ⊘ by)
-
 -- c over `by`, row by row
 unfoldable pub over : ℕ → Float → Vec → Vec
-over m by c = upto (overStep by) 0 m c
+over m by c = upto (λ row c. set c row (at c row ⊘ by)) 0 m c
 
 -- a norm that is not above EPSILON makes zeroes
 unfoldable pub normalised : ℕ → Float → Vec → Vec
 normalised m by c = cond (lt epsilon by) (over m by c) (zeros (length c))
 
--- c as column j of q
-abbrev pub putStep : ℕ → ℕ → Vec → ℕ → Vec → Vec
-putStep k j c row q = putEntry q k row j (at c row)
-
 -- all m rows of c as column j of q, which has k columns
 unfoldable pub putColumn : ℕ → ℕ → ℕ → Vec → Vec → Vec
-putColumn m k j c q = upto (putStep k j c) 0 m q
+putColumn m k j c q = upto (λ row q. putEntry q k row j (at c row)) 0 m q
 
 -- 8 or 10 where the norm of c, which becomes column j, is not finite: its class decides, and the index is the column too
 unfoldable pub finished : ℕ → ℕ → ℕ → Float → Vec → Vec → Answer × Vec

@@ -5,10 +5,11 @@ use mathlib.Core.Logic.{⊎-elim}
 use Prim.Native.Nat.{ℕ, zero, suc, _+_, _*_, _-_, _≤_, _<_}
 use native.Mathlib.Numerals.{add-one}
 use native.Mathlib.Nat.{le-antisymm, eq-or-lt-of-le, zero-mul, suc-mul, add-mul, mul-le-mul-right}
+use native.Mathlib.Decide.{ℕ-discrete}
 use native.Mathlib.Omega.{arith}
 use lib.Ieee.{Float, nan}
 use lib.ListN.{length, take, drop, set, length-append, length-drop, replicate-append-replicate, drop-of-length-le, List·getD-append}
-use lib.Seq.{getD-at, set-at, drop-cons, append-snoc, length-take-le, take-append-add, take-at}
+use lib.Seq.{getD-append-add, getD-at, set-at, drop-cons, append-snoc, length-take-le, take-append-add, take-at}
 use Rattle.grid.specs.Loop.{upto}
 use Rattle.grid.specs.LoopLaws.{upto-none, upto-more, start}
 use Rattle.grid.specs.Real.{Vec, at, zero64, zeros}
@@ -104,6 +105,18 @@ rows-none f m d = rw zero-mul
 -- row j is within
 pub row-end : (n m j : ℕ) → j < n → j * m + m ≤ n * m
 row-end n m j h = rw suc-mul at (mul-le-mul-right m h)
+
+-- number i of row t, of rows of m numbers each
+pub at-rows : (f : ℕ → Vec) (m k t i : ℕ) → ((j : ℕ) → length (f j) ≡ m) → t < k → i < m → at (rows f k) (t * m + i) ≡ at (f t) i
+unfolding rows
+at-rows f m zero t i h p q = absurd (omega arith)
+at-rows f m (suc k) t i h p q = elim (ℕ-discrete t k) [
+  | yes e ↦
+      ap (λ (j : ℕ). at (rows f k ++ f k) (j + i)) (ap (λ (j : ℕ). j * m) e ∙ sym (length-rows f m k h))
+      ∙ getD-append-add (rows f k) (f k) i nan ∙ ap (λ (j : ℕ). at (f j) i) (sym e)
+  | no d ↦
+      List·getD-append (rows f k) (f k) nan (t * m + i) (omega (arith, length-rows f m k h, row-end k m t (omega arith))) ∙ at-rows f m k t i h (omega arith) q
+]
 
 pub rows-more : (f : ℕ → Vec) (d post : Vec) {row : Vec} (j m : ℕ) → j * m ≤ length d → length row ≡ m → take (j * m) d ≡ rows f j → row ≡ f j
     → take ((j + 1) * m) (take (j * m) d ++ (row ++ post)) ≡ rows f (j + 1)

@@ -15,7 +15,7 @@ use Rattle.lanczos.specs.Checks.{size}
 use Rattle.lanczos.specs.Run.{ran}
 use Rattle.lanczos.specs.SizesLaws.{sized}
 use Rattle.lanczos.specs.Checks.{workLength}
-use Rattle.lanczos.specs.Lanczos.{lanczosEntered}
+use Rattle.lanczos.specs.LanczosLaws.{lanczosEntered}
 
 pub enough : (n k len : ℕ) → Fit n k → len ≡ workLength n k → size n k * n + size n k * size n k ≤ len
 unfolding workLength
@@ -27,10 +27,8 @@ module _ (n k limit edition : ℕ) (a b work : Vec) {found : Bad} {bad : Answer}
 
   pub enter-stops : {w x : Vec} → (bad .answer ≡ 0 → ⊥) → w ≡ zeros (length work) → x ≡ zeros (k + k * n)
       → _≡_ {A = Answer × Vec × Vec} (bad, w, x) (lanczosEntered n k limit edition a b work)
-  unfolding lanczosEntered
   enter-stops h e g = rw (← is, ne-eqb (bad .answer) 0 h, e, g)
 
   pub enter-goes : {r : Answer} {w x : Vec} → bad .answer ≡ 0 → w ≡ zeros (length work)
       → _≡_ {A = Answer × Vec} (r, x) (ran n k limit edition a b) → _≡_ {A = Answer × Vec × Vec} (r, w, x) (lanczosEntered n k limit edition a b work)
-  unfolding lanczosEntered
   enter-goes h e g = rw (← is, eq-eqb (bad .answer) 0 h, ← g, e)

@@ -10,15 +10,10 @@ use Rattle.answers.specs.declared.Answer.{Answer}
 use Rattle.lanczos.specs.Run.{none, ran}
 use Rattle.lanczos.specs.Checks.{checks}
 
--- refusal 7 looks at all of the matrix and then at the start vector: the indices go on; 7 to 10 fill both arrays with +0.0
-unfoldable pub lanczosEntered : ℕ → ℕ → ℕ → ℕ → Vec → Vec → Vec → Answer × Vec × Vec
-lanczosEntered n k limit edition a b work =
-    let bad = refusal7 (firstBad (a ++ b)) in
-    let (r, x) = cond (passed bad) (ran n k limit edition a b) (none n k bad) in
-    (r, zeros (length work), x)
-
--- 1, 2, 12, 14, 15 and 6 leave both arrays as they were
+-- 1, 2, 12, 14, 15 and 6 leave both arrays as they were; 7 looks at the matrix and then at the start vector; 7 to 10 fill both arrays with +0.0
 unfoldable pub lanczos : ℕ → ℕ → ℕ → ℕ → Vec → Vec → Vec → Vec → Answer × Vec × Vec
 lanczos n k limit edition a b work x =
     let check = checks n k limit edition (length a) (length b) (length work) (length x) in
-    cond (passed check) (lanczosEntered n k limit edition a b work) (check, work, x)
+    let bad = refusal7 (firstBad (a ++ b)) in
+    let (r, found) = cond (passed bad) (ran n k limit edition a b) (none n k bad) in
+    cond (passed check) (r, zeros (length work), found) (check, work, x)

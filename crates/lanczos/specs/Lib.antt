@@ -5,5 +5,6 @@ pub mod SizesLaws
 pub mod ChecksLaws
 -- The Lanczos run from a start vector.
 pub mod Run
--- `top_eigenpairs_lanczos` with a start vector: what a call gives, for every input.
+-- `top_eigenpairs_lanczos` with a start vector: what a call gives, for every input. LanczosLaws: laws.
 pub mod Lanczos
+pub mod LanczosLaws

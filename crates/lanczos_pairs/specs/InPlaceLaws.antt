@@ -1,32 +1,31 @@
 -- The tridiagonal matrix is symmetric, so that it stands the same by rows and by columns, and `symmetric_eigen` can work on it in place (`inward-is`). Laws only.
 -- `innerOf` is what the code does on the way; no public promise cites it.
-use mathlib.Core.Path.{_≡_, refl, sym, ap, _∙_, subst}
+use mathlib.Core.Path.{_≡_, refl, sym, ap, _∙_}
 use mathlib.Core.Bool.{Bool, true, false, cond, _&&_}
 use mathlib.Core.List.{_++_}
-use Prim.Native.Nat.{ℕ, _+_, _*_, _/_, _%_, _<_, _≤_}
-use native.Mathlib.Nat.{div-add-mod', mod-lt, div-lt-iff-lt-mul}
+use Prim.Native.Nat.{ℕ, _+_, _*_, _<_, _≤_}
 use native.Mathlib.Omega.{arith}
 use borrow.Author.Tests.{ltb-true, ne-eqb, eqb-true, eqb-false}
 use lib.Dec.{ltb, eqb}
 use lib.Ieee.{Float, nan, ofBits}
 use lib.ListN.{length, length-set, length-replicate, getD-replicate}
-use lib.Seq.{ext-getD}
 use Rattle.grid.specs.LoopLaws.{upto-keeps}
 use Rattle.grid.specs.Real.{Vec, zero64, zeros, at}
 use Rattle.grid.specs.Cell.{entry, putEntry}
 use Rattle.grid.specs.CellLaws.{cell, put-here, put-elsewhere}
 use Rattle.leaves.specs.Leaf.{isFinite}
+use Rattle.leaves.specs.Scan.{byRows}
 use Rattle.leaves.specs.FiniteLaws.{none-lower}
 use Rattle.answers.specs.Answers.{passed}
 use Rattle.answers.specs.declared.Answer.{Answer}
 use Rattle.answers.specs.Checks.{editionGood}
 use Rattle.eigen_tred2_definition.specs.Tred2.{tred2}
-use Rattle.eigen_symmetric_eigen.specs.Layout.{columns, rows}
+use Rattle.eigen_symmetric_eigen.specs.Layout.{columns}
 use Rattle.eigen_symmetric_eigen.specs.AfterTred2.{afterTred}
 use Rattle.eigen_symmetric_eigen.specs.SymmetricEigen.{decomposed, cleared, given, eigenEntered}
 use Rattle.eigen_symmetric_eigen.specs.PartsLaws.{outward, checks-pass}
-use Rattle.eigen_symmetric_eigen.specs.LayoutLaws.{columns-cell, columns-long}
-use Rattle.lanczos_pairs.specs.TridiagonalMatrix.{triStep, tri}
+use Rattle.eigen_symmetric_eigen.specs.LayoutLaws.{same-entries, columns-cell, columns-long}
+use Rattle.lanczos_pairs.specs.TridiagonalMatrix.{tri}
 use Rattle.lanczos_pairs.specs.TridiagonalEigen.{inward}
 
 -- of (matrix, d, e): the answer, the vectors row by row, the values, and e
@@ -51,7 +50,7 @@ got t m i j r c x l p q s o = go (eqb i r) (eqb j c) refl refl
 pub record Own (m : ℕ) (t : Vec) : Type 0 where
   pub long : length t ≡ m * m
   pub fine : (r c : ℕ) → r < m → c < m → isFinite (entry t m r c) ≡ true
-  pub mirror : (r c : ℕ) → r < m → c < m → entry t m r c ≡ entry t m c r
+  pub symmetric : (r c : ℕ) → r < m → c < m → entry t m r c ≡ entry t m c r
 
 same-and : (a b : Bool) → a && b ≡ b && a
 same-and true true = refl
@@ -69,7 +68,7 @@ put-fine m i j t x l p q f h r c s o = ap isFinite (got t m i j r c x l p q s o)
 
 -- on the diagonal
 own-one : (m i : ℕ) (t : Vec) (x : Float) → i < m → isFinite x ≡ true → Own m t → Own m (putEntry t m i i x)
-own-one m i t x p f h = record { long = length-set t (i * m + i) x ∙ h .long; fine = put-fine m i i t x (h .long) p p f (h .fine); mirror = now }
+own-one m i t x p f h = record { long = length-set t (i * m + i) x ∙ h .long; fine = put-fine m i i t x (h .long) p p f (h .fine); symmetric = now }
   where
     pick : (b : Bool) (y z : Float) → y ≡ z → cond b x y ≡ cond b x z
     pick true y z e = refl
@@ -78,7 +77,7 @@ own-one m i t x p f h = record { long = length-set t (i * m + i) x ∙ h .long; 
     now : (r c : ℕ) → r < m → c < m → entry (putEntry t m i i x) m r c ≡ entry (putEntry t m i i x) m c r
     now r c s o =
         got t m i i r c x (h .long) p p s o
-        ∙ pick (eqb i r && eqb i c) (entry t m r c) (entry t m c r) (h .mirror r c s o)
+        ∙ pick (eqb i r && eqb i c) (entry t m r c) (entry t m c r) (h .symmetric r c s o)
         ∙ ap (λ (b : Bool). cond b x (entry t m c r)) (same-and (eqb i r) (eqb i c))
         ∙ sym (got t m i i c r x (h .long) p p o s)
 
@@ -87,7 +86,7 @@ own-two : (m i j : ℕ) (t : Vec) (x : Float) → i < m → j < m → isFinite x
 own-two m i j t x p q f h = record {
   long = length-set u (j * m + i) x ∙ long;
   fine = put-fine m j i u x long q p f (put-fine m i j t x (h .long) p q f (h .fine));
-  mirror = now;
+  symmetric = now;
 }
   where
     u : Vec
@@ -108,7 +107,7 @@ own-two m i j t x p q f h = record {
     now : (r c : ℕ) → r < m → c < m → entry (putEntry u m j i x) m r c ≡ entry (putEntry u m j i x) m c r
     now r c s o =
         both r c s o
-        ∙ pick (eqb j r && eqb i c) (eqb i r && eqb j c) (entry t m r c) (entry t m c r) (h .mirror r c s o)
+        ∙ pick (eqb j r && eqb i c) (eqb i r && eqb j c) (entry t m r c) (entry t m c r) (h .symmetric r c s o)
         ∙ ap (λ (b : Bool). cond b x (cond (eqb j r && eqb i c) x (entry t m c r))) (same-and (eqb i r) (eqb j c))
         ∙ ap (λ (b : Bool). cond (eqb j c && eqb i r) x (cond b x (entry t m c r))) (same-and (eqb j r) (eqb i c))
         ∙ sym (both c r o s)
@@ -117,6 +116,11 @@ own-two m i j t x p q f h = record {
 pub record Fine (m : ℕ) (al be : Vec) : Type 0 where
   pub alphas : (i : ℕ) → i < m → isFinite (at al i) ≡ true
   pub betas : (i : ℕ) → i < m → isFinite (at be i) ≡ true
+
+abbrev pub triStep : ℕ → Vec → Vec → ℕ → Vec → Vec
+triStep m al be i t =
+    let u = putEntry t m i i (at al i) in
+    cond (ltb (i + 1) m) (putEntry (putEntry u m i (i + 1) (at be i)) m (i + 1) i (at be i)) u
 
 own-step : (m i : ℕ) (al be t : Vec) → i < m → Fine m al be → Own m t → Own m (triStep m al be i t)
 own-step m i al be t p f h = go (ltb (i + 1) m) refl
@@ -133,7 +137,7 @@ unfolding isFinite ofBits
 own-zeros m = record {
   long = length-replicate (m * m) zero64;
   fine = λ r c s o. ap isFinite (zero r c s o);
-  mirror = λ r c s o. zero r c s o ∙ sym (zero c r o s);
+  symmetric = λ r c s o. zero r c s o ∙ sym (zero c r o s);
 }
   where
     zero : (r c : ℕ) → r < m → c < m → entry (zeros (m * m)) m r c ≡ zero64
@@ -147,16 +151,8 @@ own-tri m al be f =
 
 -- ---- by rows and by columns
 
-own-columns : (m : ℕ) (t z : Vec) → 0 < m → length z ≡ m * m → Own m t → columns m t z ≡ t
-own-columns m t z p l h = ext-getD nan (columns m t z) t (columns-long m t z l ∙ sym (h .long)) number
-  where
-    cells : (r c : ℕ) → r < m → c < m → at (columns m t z) (c * m + r) ≡ at t (c * m + r)
-    cells r c s o = columns-cell m t z r c l s o ∙ h .mirror r c s o
-
-    number : (k : ℕ) → k < length (columns m t z) → at (columns m t z) k ≡ at t k
-    number k g =
-        subst (λ (j : ℕ). at (columns m t z) j ≡ at t j) (div-add-mod' k m)
-        (cells (k % m) (k / m) (mod-lt k p) (div-lt-iff-lt-mul p .1 (subst (λ (j : ℕ). k < j) (columns-long m t z l) g)))
+own-columns : (m : ℕ) (t : Vec) → Own m t → columns m t ≡ t
+own-columns m t h = same-entries m (columns m t) t (columns-long m t) (h .long) (λ r c s o. columns-cell m t c r o s ∙ h .symmetric c r o s)
 
 -- ---- the inner call
 
@@ -169,7 +165,7 @@ unfolding outward given
 rows-given m y = go (passed (y .0)) refl
   where
     go : (b : Bool) → passed (y .0) ≡ b
-        → cond (passed (y .0)) (y .0, zeros m, y .2 ++ rows m (y .1)) (cleared m (y .0)) ≡ out m (cond (passed (y .0)) (y .0, rows m (y .1), y .2, y .3) y)
+        → cond (passed (y .0)) (y .0, zeros m, y .2 ++ byRows m (y .1)) (cleared m (y .0)) ≡ out m (cond (passed (y .0)) (y .0, byRows m (y .1), y .2, y .3) y)
     go true t = simp t
     go false t = simp t
 
@@ -177,7 +173,7 @@ module _ (m limit edition : ℕ) (some : 0 < m) (few : m ≤ 256) (lo : 1 ≤ li
   in-place : (t : Vec) → Own m t → eigenEntered m limit edition t ≡ out m (innerOf m limit edition (t, zeros m, zeros m))
   unfolding eigenEntered innerOf decomposed
   in-place t h =
-      rw (none-lower m t (h .long) (λ i j p q. h .fine i j q (omega arith)), ne-eqb m 0 (λ e. omega arith), own-columns m t (zeros (m * m)) some (length-replicate (m * m) zero64) h)
+      rw (none-lower m t (h .long) (λ i j p q. h .fine i j q (omega arith)), ne-eqb m 0 (λ e. omega arith), own-columns m t h)
       (rows-given m (afterTred m limit edition (tred2 m (t, zeros m, zeros m))))
 
   pub inward-is : (al be : Vec) → Fine m al be → inward m limit edition al be ≡ out m (innerOf m limit edition (tri m al be (zeros (m * m)), zeros m, zeros m))

@@ -1,6 +1,6 @@
 -- The leading Ritz pairs, from m vectors in q (n numbers each) and the values and vectors of the small problem. Definitions only.
 use mathlib.Core.Bool.{cond}
-use Prim.Native.Nat.{ℕ, _+_}
+use Prim.Native.Nat.{ℕ}
 use lib.ListN.{length}
 use Rattle.grid.specs.Real.{Vec, zeros, at}
 use Rattle.leaves.specs.Scan.{isBad, firstBad}
@@ -15,5 +15,4 @@ looked found count x = cond (isBad (firstBad x)) (marked 6 count (firstBad x), z
 
 -- the pairs with the greatest values, in descending order, equal ones in their old order
 unfoldable pub selected : ℕ → ℕ → ℕ → ℕ → Vec → Vec → Vec → Vec → Answer × Vec
-selected n k m count q vals vecs x =
-    looked (least k m) count (pairs n k m (least k m) q vals vecs (order (λ (i : ℕ). at vals (0 + i)) m) x)
+selected n k m count q vals vecs x = looked (least k m) count (pairs n k m (least k m) q vals vecs (order (at vals) m) x)

@@ -7,11 +7,8 @@ use Rattle.grid.specs.Real.{Vec, at}
 use Rattle.grid.specs.Cell.{putEntry}
 
 -- the alphas on the diagonal, the betas on both sides of it
-abbrev pub triStep : ℕ → Vec → Vec → ℕ → Vec → Vec
-triStep m al be i t =
-    let u = putEntry t m i i (at al i) in
-    cond (ltb (i + 1) m) (putEntry (putEntry u m i (i + 1) (at be i)) m (i + 1) i (at be i)) u
-
--- `triStep` for i = 0 .. m - 1
 unfoldable pub tri : ℕ → Vec → Vec → Vec → Vec
-tri m al be t = upto (triStep m al be) 0 m t
+tri m al be t =
+    upto (λ i t.
+    let u = putEntry t m i i (at al i) in
+    cond (ltb (i + 1) m) (putEntry (putEntry u m i (i + 1) (at be i)) m (i + 1) i (at be i)) u) 0 m t

@@ -1,7 +1,7 @@
 // The Ritz pairs of document 000's Lanczos: k values, then k rows of n numbers.
 ghost use mathlib.Core.Path.{_≡_};
-ghost use Prim.Native.Nat.{_+_, _*_, _<_, _≤_};
-ghost use lib.ListN.{length};
+ghost use Prim.Native.Nat.{ℕ, _+_, _*_, _<_, _≤_};
+ghost use lib.ListN.{length, getD};
 ghost use Rattle.svd_sort_svd_descending.specs.Rank.{Below};
 ghost use Rattle.lanczos_pairs.specs.RitzPairs.{ritz, levelled, pair, pairs};
 use gram_schmidt::column_of;
@@ -90,7 +90,7 @@ pub fn pairs(
     x: &mut [f64],
 )
     requires { ⌜ (n ≤ 256) × (found ≤ k) × (found ≤ m) × (m ≤ s) × (m ≤ 256) × Below m (now o) × (length (now q) ≡ s * n) × (length (now vals) ≡ m) × (length (now vecs) ≡ m * m) × (length (now y) ≡ n) × (length (now x) ≡ k + k * n) ⌝ }
-    ensures { λ _. ⌜ now (x .exit) ≡ pairs n k m found (now (q .entry)) (now (vals .entry)) (now (vecs .entry)) (now (o .entry)) (now (x .entry)) ⌝ }
+    ensures { λ _. ⌜ now (x .exit) ≡ pairs n k m found (now (q .entry)) (now (vals .entry)) (now (vecs .entry)) (λ (t : ℕ). getD (now (o .entry)) t 0) (now (x .entry)) ⌝ }
 {
     for t in 0..found {
         let c = o[t];

@@ -2,7 +2,8 @@
 ghost use mathlib.Core.Path.{_≡_};
 ghost use Prim.Native.Nat.{_*_, _<_, _≤_};
 ghost use lib.ListN.{length};
-ghost use Rattle.lanczos_pairs.specs.TridiagonalMatrix.{triStep, tri};
+ghost use Rattle.lanczos_pairs.specs.TridiagonalMatrix.{tri};
+ghost use Rattle.lanczos_pairs.specs.InPlaceLaws.{triStep};
 use grid::LARGEST;
 use grid::put_entry;
 

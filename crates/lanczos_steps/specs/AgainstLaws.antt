@@ -13,7 +13,10 @@ use Rattle.grid.specs.Table.{part}
 use Rattle.gram_schmidt.specs.Gram.{dot}
 use Rattle.matvec.specs.Matvec.{rowOf, added, without}
 use Rattle.matvec.specs.Rows.{addedDot}
-use Rattle.lanczos_steps.specs.Reorthogonalise.{againstAll}
+
+-- w against the vectors before step j, and against v
+unfoldable pub againstAll : ℕ → ℕ → Vec → Vec → Vec → Vec
+againstAll n j q v w = without n v (upto (λ i. without n (rowOf n i q)) 0 j w)
 
 -- ---- the first row, and the one behind row i
 

@@ -15,8 +15,6 @@ use Rattle.lanczos_steps.specs.Reorthogonalise.{twice}
 use Rattle.lanczos_steps.specs.StepEnd.{went, stepEnded}
 use Rattle.lanczos_steps.specs.declared.step_end.Went.{Went}
 
--- ---- one step
-
 -- A v, which is w, less alpha times v, and from step 1 on less the last beta times the last vector
 unfoldable pub recurred : ℕ → ℕ → Float → Vec → Vec → Vec → Vec → Vec
 recurred n j alpha q be v w =
@@ -27,27 +25,17 @@ recurred n j alpha q be v w =
 abbrev pub LanczosState : Type 0
 LanczosState = Went × Vec × Vec × Vec × Vec
 
--- v is the next of q, and alpha its number
-unfoldable pub kept : ℕ → ℕ → Float → Vec → Vec → Vec → Vec → Vec → LanczosState
-kept n j alpha w q al be v =
-    let (r, be′, v′) = stepEnded n j (norm n w) w be v in
-    (r, replaced (j * n) (j * n + n) v q, set al j alpha, be′, v′)
-
--- an alpha that is not finite is refused as soon as it is worked out
+-- v is the next of q, and alpha its number; an alpha that is not finite is refused as soon as it is worked out
 unfoldable pub step : ℕ → Vec → ℕ → Vec → Vec → Vec → Vec → LanczosState
 step n a j q al be v =
-    let w = product n a v in
-    let alpha = dot n v w in
+    let Av = product n a v in
+    let alpha = dot n v Av in
+    let w = twice n j q v (recurred n j alpha q be v Av) in
+    let (r, be′, v′) = stepEnded n j (norm n w) w be v in
     cond (isFinite alpha)
-    (kept n j alpha (twice n j q v (recurred n j alpha q be v w)) q al be v)
+    (r, replaced (j * n) (j * n + n) v q, set al j alpha, be′, v′)
     (went false (answered (classOf alpha) 4 j 0) (j + 1), q, al, be, v)
 
--- ---- all steps
-
--- nothing more is done once they have stopped
-unfoldable pub stepIfOn : ℕ → Vec → ℕ → LanczosState → LanczosState
-stepIfOn n a j (r, q, al, be, v) = cond (r .on) (step n a j q al be v) (r, q, al, be, v)
-
--- from the vector v: j = 0 .. s - 1
+-- the first s steps from the vector v; nothing more is done once they have stopped
 unfoldable pub steps : ℕ → ℕ → Vec → Vec → Vec → Vec → Vec → LanczosState
-steps n s a q al be v = upto (stepIfOn n a) 0 s (went true (done 0) 0, q, al, be, v)
+steps n s a q al be v = upto (λ j (r, q, al, be, v). cond (r .on) (step n a j q al be v) (r, q, al, be, v)) 0 s (went true (done 0) 0, q, al, be, v)

@@ -1,7 +1,7 @@
 -- What the steps leave: alphas and betas that are finite (`steps-fine`), and how many steps were begun (`steps-some`, `steps-few`). Laws only.
 use mathlib.Core.Path.{_≡_, refl, sym, ap, _∙_}
 use mathlib.Core.Bool.{Bool, true, false, cond, true≢false}
-use Prim.Native.Nat.{ℕ, _+_, _<_, _≤_}
+use Prim.Native.Nat.{ℕ, _+_, _*_, _<_, _≤_}
 use native.Mathlib.Decide.{ℕ-discrete}
 use native.Mathlib.Omega.{arith}
 use lib.Ieee.{Float, nan, lt, ofBits}
@@ -12,10 +12,20 @@ use Rattle.grid.specs.Real.{Vec, zero64, zeros, at}
 use Rattle.leaves.specs.Leaf.{isFinite}
 use Rattle.answers.specs.Answers.{done}
 use Rattle.gram_schmidt.specs.Gram.{dot, norm}
-use Rattle.matvec.specs.Matvec.{product}
+use Rattle.matvec.specs.Matvec.{replaced, product}
 use Rattle.lanczos_steps.specs.declared.step_end.Went.{Went}
 use Rattle.lanczos_steps.specs.StepEnd.{leastBeta, went, stepEnded}
-use Rattle.lanczos_steps.specs.Krylov.{LanczosState, kept, step, stepIfOn, steps}
+use Rattle.lanczos_steps.specs.Krylov.{LanczosState, step, steps}
+
+-- ---- parts of a step, as the code has them; no promise speaks of these
+
+abbrev pub kept : ℕ → ℕ → Float → Vec → Vec → Vec → Vec → Vec → LanczosState
+kept n j alpha w q al be v =
+    let (r, be′, v′) = stepEnded n j (norm n w) w be v in
+    (r, replaced (j * n) (j * n + n) v q, set al j alpha, be′, v′)
+
+abbrev pub stepIfOn : ℕ → Vec → ℕ → LanczosState → LanczosState
+stepIfOn n a j (r, q, al, be, v) = cond (r .on) (step n a j q al be v) (r, q, al, be, v)
 
 -- ---- a list of so many finite numbers
 
@@ -67,7 +77,6 @@ ended-fine n j beta w be v h =
     (λ e. h)
 
 kept-fine : (n j : ℕ) (alpha : Float) (w q al be v : Vec) → isFinite alpha ≡ true → Both al be → InState (kept n j alpha w q al be v)
-unfolding kept
 kept-fine n j alpha w q al be v e h = record { alphas = fine-set 256 al j alpha e (h .alphas); betas = ended-fine n j (norm n w) w be v (h .betas) }
 
 -- ---- and each is the step after the one before
@@ -80,7 +89,6 @@ ended-dim n j beta w be v =
     (λ e. refl)
 
 kept-dim : (n j : ℕ) (alpha : Float) (w q al be v : Vec) → kept n j alpha w q al be v .0 .dim ≡ j + 1
-unfolding kept
 kept-dim n j alpha w q al be v = ended-dim n j (norm n w) w be v
 
 record Begun (j : ℕ) (x : LanczosState) : Type 0 where
@@ -91,7 +99,7 @@ step-begun : (n : ℕ) (a : Vec) (j : ℕ) (q al be v : Vec) → Both al be → 
 unfolding step
 step-begun n a j q al be v h =
     either (Begun j) (isFinite (dot n v (product n a v)))
-    (λ e. record { begun = kept-dim n j _ _ q al be v; fine = kept-fine n j _ _ q al be v e h })
+    (λ e. record { begun = kept-dim n j (dot n v (product n a v)) _ q al be v; fine = kept-fine n j _ _ q al be v e h })
     (λ e. record { begun = refl; fine = h })
 
 -- after j turns
@@ -102,7 +110,6 @@ record Turned (j : ℕ) (x : LanczosState) : Type 0 where
   fine : InState x
 
 step-turned : (n : ℕ) (a : Vec) (j : ℕ) (x : LanczosState) → Turned j x → Turned (j + 1) (stepIfOn n a j x)
-unfolding stepIfOn
 step-turned n a j x h =
     either (Turned (j + 1)) (x .0 .on)
     (λ e.

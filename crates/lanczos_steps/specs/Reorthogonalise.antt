@@ -4,10 +4,6 @@ use Rattle.grid.specs.Loop.{upto}
 use Rattle.grid.specs.Real.{Vec}
 use Rattle.matvec.specs.Matvec.{rowOf, without}
 
--- w against the vectors before step j, and against v
-unfoldable pub againstAll : ℕ → ℕ → Vec → Vec → Vec → Vec
-againstAll n j q v w = without n v (upto (λ i. without n (rowOf n i q)) 0 j w)
-
--- twice: the second round takes what the first left
+-- w against the vectors before step j, and against v, twice: the second round takes what the first left
 unfoldable pub twice : ℕ → ℕ → Vec → Vec → Vec → Vec
-twice n j q v w = upto (λ p. againstAll n j q v) 0 2 w
+twice n j q v w = upto (λ p w. without n v (upto (λ i. without n (rowOf n i q)) 0 j w)) 0 2 w

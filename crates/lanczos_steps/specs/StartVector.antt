@@ -8,10 +8,6 @@ use Rattle.grid.specs.Table.{table}
 use Rattle.root.specs.Root.{root}
 use Rattle.gram_schmidt.specs.Unit.{over}
 
--- 1 / root n throughout
-unfoldable pub level : ℕ → Vec
-level n = table (λ i. one64 ⊘ root (ofInt binary64 (pos n))) n
-
--- the first vector: b over its norm, where that is above EPSILON
+-- the first vector: b over its norm, where that is above EPSILON, else 1 / root n throughout
 unfoldable pub started : ℕ → Float → Vec → Vec
-started n by b = cond (lt epsilon by) (over n by b) (level n)
+started n by b = cond (lt epsilon by) (over n by b) (table (λ i. one64 ⊘ root (ofInt binary64 (pos n))) n)

@@ -7,8 +7,9 @@ ghost use mathlib.Core.Path.{_≡_};
 ghost use mathlib.Core.Bool.{true};
 ghost use Prim.Native.Nat.{_+_, _*_, _<_, _≤_};
 ghost use lib.ListN.{length};
-ghost use Rattle.matvec.specs.Symmetry.{Mirror};
-ghost use Rattle.lanczos_steps.specs.Krylov.{recurred, kept, step, stepIfOn, steps};
+ghost use Rattle.matvec.specs.Symmetry.{Symmetric};
+ghost use Rattle.lanczos_steps.specs.Krylov.{recurred, step, steps};
+ghost use Rattle.lanczos_steps.specs.KrylovLaws.{kept, stepIfOn};
 use crate::reorthogonalise::twice;
 use crate::step_end::Went;
 use crate::step_end::end;
@@ -21,7 +22,7 @@ use grid::copy;
 use leaves::class_of;
 use leaves::is_finite;
 use matvec::add;
-use matvec::symmetric_product::mirrored;
+use matvec::symmetric_product::is_symmetric;
 use matvec::symmetric_product::product;
 
 // ---- one step
@@ -75,7 +76,7 @@ fn keep(
 fn step(
     n: usize,
     s: usize,
-    mirror: bool,
+    symmetric: bool,
     a: &[f64],
     j: usize,
     q: &mut [f64],
@@ -84,10 +85,10 @@ fn step(
     v: &mut [f64],
     w: &mut [f64],
 ) -> Went
-    requires { ⌜ (j < s) × (s ≤ 256) × (n ≤ 256) × (mirror ≡ true → Mirror n (now a)) × (length (now a) ≡ n * n) × (length (now q) ≡ s * n) × (length (now v) ≡ n) × (length (now w) ≡ n) ⌝ }
+    requires { ⌜ (j < s) × (s ≤ 256) × (n ≤ 256) × (symmetric ≡ true → Symmetric n (now a)) × (length (now a) ≡ n * n) × (length (now q) ≡ s * n) × (length (now v) ≡ n) × (length (now w) ≡ n) ⌝ }
     ensures { λ r. ⌜ (r, now (q .exit), now (al .exit), now (be .exit), now (v .exit)) ≡ step n (now (a .entry)) j (now (q .entry)) (now (al .entry)) (now (be .entry)) (now (v .entry)) ⌝ }
 {
-    product(n, mirror, a, v, w);
+    product(n, symmetric, a, v, w);
     let alpha = dot(n, v, w);
     if !is_finite(alpha) {
         return Went {
@@ -107,7 +108,7 @@ fn step(
 fn step_if_on(
     n: usize,
     s: usize,
-    mirror: bool,
+    symmetric: bool,
     a: &[f64],
     j: usize,
     r: Went,
@@ -117,13 +118,13 @@ fn step_if_on(
     v: &mut [f64],
     w: &mut [f64],
 ) -> Went
-    requires { ⌜ (j < s) × (s ≤ 256) × (n ≤ 256) × (mirror ≡ true → Mirror n (now a)) × (length (now a) ≡ n * n) × (length (now q) ≡ s * n) × (length (now v) ≡ n) × (length (now w) ≡ n) ⌝ }
+    requires { ⌜ (j < s) × (s ≤ 256) × (n ≤ 256) × (symmetric ≡ true → Symmetric n (now a)) × (length (now a) ≡ n * n) × (length (now q) ≡ s * n) × (length (now v) ≡ n) × (length (now w) ≡ n) ⌝ }
     ensures { λ t. ⌜ (t, now (q .exit), now (al .exit), now (be .exit), now (v .exit)) ≡ stepIfOn n (now (a .entry)) j (r, now (q .entry), now (al .entry), now (be .entry), now (v .entry)) ⌝ }
 {
     if !r.on {
         return r;
     }
-    step(n, s, mirror, a, j, q, al, be, v, w)
+    step(n, s, symmetric, a, j, q, al, be, v, w)
 }
 
 // s steps at the most, from the vector v. w is scratch.
@@ -140,14 +141,14 @@ pub fn steps(
     requires { ⌜ (s ≤ 256) × (n ≤ 256) × (length (now a) ≡ n * n) × (length (now q) ≡ s * n) × (length (now v) ≡ n) × (length (now w) ≡ n) ⌝ }
     ensures { λ r. ⌜ (r, now (q .exit), now (al .exit), now (be .exit), now (v .exit)) ≡ steps n s (now (a .entry)) (now (q .entry)) (now (al .entry)) (now (be .entry)) (now (v .entry)) ⌝ }
 {
-    let mirror = mirrored(n, a);
+    let symmetric = is_symmetric(n, a);
     let mut r = Went {
         on: true,
         said: done(0),
         dim: 0,
     };
     for j in 0..s {
-        r = step_if_on(n, s, mirror, a, j, r, q, al, be, v, w);
+        r = step_if_on(n, s, symmetric, a, j, r, q, al, be, v, w);
     }
     r
 }

@@ -2,8 +2,8 @@
 ghost use mathlib.Core.Path.{_≡_};
 ghost use Prim.Native.Nat.{_*_, _<_, _≤_};
 ghost use lib.ListN.{length};
-ghost use Rattle.lanczos_steps.specs.Reorthogonalise.{againstAll, twice};
-ghost use Rattle.lanczos_steps.specs.AgainstLaws.{passed};
+ghost use Rattle.lanczos_steps.specs.Reorthogonalise.{twice};
+ghost use Rattle.lanczos_steps.specs.AgainstLaws.{againstAll, passed};
 use gram_schmidt::dot;
 use matvec::add;
 use matvec::add_dot;

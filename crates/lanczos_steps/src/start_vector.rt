@@ -1,7 +1,12 @@
 // The first vector of a Lanczos run.
 ghost use mathlib.Core.Path.{_≡_};
+ghost use lib.Ieee.{binary64, ofInt};
+ghost use lib.IntN.{pos};
 ghost use lib.ListN.{length};
-ghost use Rattle.lanczos_steps.specs.StartVector.{level, started};
+ghost use Rattle.grid.specs.Real.{one64, _⊘_};
+ghost use Rattle.grid.specs.Table.{table};
+ghost use Rattle.root.specs.Root as Root;
+ghost use Rattle.lanczos_steps.specs.StartVector.{started};
 use gram_schmidt::normalise::over;
 use grid::EPSILON;
 use grid::copy;
@@ -11,7 +16,7 @@ use root::root;
 // 1 / root n throughout.
 fn level(n: usize, to: &mut [f64])
     requires { ⌜ length (now to) ≡ n ⌝ }
-    ensures { λ _. ⌜ now (to .exit) ≡ level n ⌝ }
+    ensures { λ _. ⌜ now (to .exit) ≡ table (λ i. one64 ⊘ Root.root (ofInt binary64 (pos n))) n ⌝ }
 {
     let x = 1.0 / root(std::num::nearest_u64_to_f64(n as u64));
     for i in 0..n {

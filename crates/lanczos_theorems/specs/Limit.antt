@@ -21,7 +21,8 @@ use Rattle.lanczos_pairs.specs.TridiagonalMatrix.{tri}
 use Rattle.lanczos_pairs.specs.TridiagonalEigen.{inward}
 use Rattle.lanczos.specs.Run.{none, paired, solved, ran}
 use Rattle.lanczos.specs.Checks.{checks}
-use Rattle.lanczos.specs.Lanczos.{lanczosEntered, lanczos}
+use Rattle.lanczos.specs.Lanczos.{lanczos}
+use Rattle.lanczos.specs.LanczosLaws.{lanczosEntered}
 use Rattle.lanczos_theorems.specs.Early.{Outcome, Promised}
 
 abbrev answer2 : Answer × Vec → ℕ
@@ -56,7 +57,6 @@ module _ (l h : ℕ) (low : 1 ≤ l) (up : l ≤ h) (high : h ≤ 60) where
   ran-limit n k edition a b = by-test answer2 (isFinite (norm n b)) _ refl (solved-limit n k edition _) (always answer2)
 
   entered-limit : (n k edition : ℕ) (a b work : Vec) → Settled answer3 (lanczosEntered n k l edition a b work) (lanczosEntered n k h edition a b work)
-  unfolding lanczosEntered
   entered-limit n k edition a b work =
       let s = by-test answer2 (passed (refusal7 (firstBad (a ++ b)))) _ refl (ran-limit n k edition a b) (always answer2 {x = none n k (refusal7 (firstBad (a ++ b)))}) in
       record { same = λ d. ap (λ (y : Answer × Vec). (y .0, zeros (length work), y .1)) (s .same d) }

@@ -13,7 +13,8 @@ use Rattle.answers.specs.declared.Answer.{Answer}
 use Rattle.answers.specs.Checks.{limitGood, editionGood, lengths}
 use Rattle.answers.specs.ChecksLaws.{lengths-few}
 use Rattle.lanczos.specs.Checks.{workLength, checks}
-use Rattle.lanczos.specs.Lanczos.{lanczosEntered, lanczos}
+use Rattle.lanczos.specs.Lanczos.{lanczos}
+use Rattle.lanczos.specs.LanczosLaws.{lanczosEntered}
 use Rattle.lanczos_theorems.specs.Early.{Untouched, Outcome, Promised}
 
 -- a check that refuses touches nothing
@@ -38,7 +39,6 @@ checks-early n k limit edition a b work x = go (ltb 256 n) (limitGood limit) (ed
 
 -- where it refuses nothing, the old contents are not read
 entered-same : (n k limit edition : ℕ) (a b work work′ : Vec) → length work ≡ length work′ → lanczosEntered n k limit edition a b work ≡ lanczosEntered n k limit edition a b work′
-unfolding lanczosEntered
 entered-same n k limit edition a b work work′ l = rw l
 
 -- **lanczos-old-contents**

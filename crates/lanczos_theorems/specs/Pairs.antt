@@ -2,30 +2,30 @@
 use mathlib.Core.Path.{_≡_, refl, sym, ap, _∙_, subst}
 use mathlib.Core.Logic.{⊎-elim}
 use mathlib.Core.Bool.{Bool, true, false, cond, not}
-use mathlib.Core.List.{List, _++_}
+use mathlib.Core.List.{_++_}
 use Prim.Native.Nat.{ℕ, _+_, _-_, _*_, _<_, _≤_}
-use native.Mathlib.Nat.{add-mul, mul-le-mul-right, zero-add}
+use native.Mathlib.Nat.{add-mul, mul-le-mul-right}
 use native.Mathlib.Decide.{ℕ-discrete}
 use native.Mathlib.Omega.{arith}
 use borrow.Author.Tests.{ltb-true, ltb-false, eqb-true, eqb-false}
 use lib.Dec.{ltb, eqb}
 use lib.Ieee.{Float, nan, le, lt}
-use lib.ListN.{length, set, getD, take, drop, length-set, length-append, length-drop, length-replicate, getD-replicate, List·getD-append}
+use lib.ListN.{length, set, take, drop, length-set, length-append, length-drop, length-replicate, getD-replicate, List·getD-append}
 use lib.Seq.{length-take-le, getD-set-same, getD-set-other, getD-take, getD-drop, getD-append-add}
 use Rattle.grid.specs.Loop.{upto}
 use Rattle.grid.specs.LoopLaws.{upto-both, upto-keeps}
-use Rattle.grid.specs.Real.{Vec, at, zero64, zeros, epsilon}
+use Rattle.grid.specs.Real.{Vec, at, zero64, zeros, epsilon, _⊘_, _⊕_, _⊗_}
 use Rattle.grid.specs.Cell.{entry}
 use Rattle.leaves.specs.Leaf.{isFinite}
 use Rattle.leaves.specs.ScanLaws.{class-cases, first-class}
 use Rattle.answers.specs.Answers.{done, passed, least}
 use Rattle.answers.specs.declared.Answer.{Answer}
 use Rattle.gram_schmidt.specs.Gram.{norm}
-use Rattle.gram_schmidt.specs.Unit.{overStep, over}
-use Rattle.matvec.specs.Matvec.{rowOf, replaced, addStep, added}
+use Rattle.gram_schmidt.specs.Unit.{over}
+use Rattle.matvec.specs.Matvec.{rowOf, replaced, added}
 use Rattle.svd_sort_svd_descending.specs.Order.{order}
 use Rattle.svd_theorems.specs.Order.{order-sorted}
-use Rattle.lanczos_pairs.specs.RitzPairs.{ritzStep, ritz, levelled, pair, pairStep, pairs}
+use Rattle.lanczos_pairs.specs.RitzPairs.{ritz, levelled, pair, pairs}
 use Rattle.lanczos_pairs.specs.TridiagonalEigen.{inward}
 use Rattle.eigen_theorems.specs.Result.{finite-out}
 use Rattle.lanczos.specs.Checks.{size, checks}
@@ -64,16 +64,16 @@ module _ (a n : ℕ) (ys d : Vec) (l : length ys ≡ n) (h : a + n ≤ length d)
 
 added-long : (n : ℕ) (f : Float) (u w : Vec) → length (added n f u w) ≡ length w
 unfolding added
-added-long n f u w = upto-keeps (λ s t. length s ≡ length w) (addStep f u) (addStep f u) 0 n w w (λ j s t p q h. length-set s j _ ∙ h) refl
+added-long n f u w = upto-keeps (λ s t. length s ≡ length w) (λ i w. set w i (at w i ⊕ f ⊗ at u i)) (λ i w. set w i (at w i ⊕ f ⊗ at u i)) 0 n w w (λ j s t p q h. length-set s j _ ∙ h) refl
 
 over-long : (n : ℕ) (by : Float) (c : Vec) → length (over n by c) ≡ length c
 unfolding over
-over-long n by c = upto-keeps (λ s t. length s ≡ length c) (overStep by) (overStep by) 0 n c c (λ j s t p q h. length-set s j _ ∙ h) refl
+over-long n by c = upto-keeps (λ s t. length s ≡ length c) (λ row c. set c row (at c row ⊘ by)) (λ row c. set c row (at c row ⊘ by)) 0 n c c (λ j s t p q h. length-set s j _ ∙ h) refl
 
 ritz-long : (n m : ℕ) (q vecs : Vec) (c : ℕ) → length (ritz n m q vecs c) ≡ n
 unfolding ritz
 ritz-long n m q vecs c =
-    upto-keeps (λ s t. length s ≡ n) (ritzStep n m q vecs c) (ritzStep n m q vecs c) 0 m (zeros n) (zeros n) (λ j s t p o h. added-long n (entry vecs m j c) (rowOf n j q) s ∙ h) (length-replicate n zero64)
+    upto-keeps (λ s t. length s ≡ n) (λ j x. added n (entry vecs m j c) (rowOf n j q) x) (λ j x. added n (entry vecs m j c) (rowOf n j q) x) 0 m (zeros n) (zeros n) (λ j s t p o h. added-long n (entry vecs m j c) (rowOf n j q) s ∙ h) (length-replicate n zero64)
 
 levelled-long : (n : ℕ) (c : Vec) → length c ≡ n → length (levelled n c) ≡ n
 unfolding levelled
@@ -85,19 +85,19 @@ levelled-long n c l = go (lt epsilon (norm n c))
 
 -- ---- t pairs are laid out
 
-record Laid (n k : ℕ) (vals : Vec) (o : List ℕ) (t : ℕ) (x : Vec) : Type 0 where
+record Laid (n k : ℕ) (vals : Vec) (o : ℕ → ℕ) (t : ℕ) (x : Vec) : Type 0 where
   long : length x ≡ k + k * n
-  values : (p : ℕ) → p < t → at x p ≡ at vals (getD o p 0)
+  values : (p : ℕ) → p < t → at x p ≡ at vals (o p)
   rest : (p : ℕ) → t ≤ p → p < k → at x p ≡ zero64
   rows : (i : ℕ) → k + t * n ≤ i → i < k + k * n → at x i ≡ zero64
 
-module _ (n k m : ℕ) (q vals vecs : Vec) (o : List ℕ) where
-  one-laid : (t : ℕ) (x : Vec) → t < k → Laid n k vals o t x → Laid n k vals o (t + 1) (pairStep n k m q vals vecs o t x)
+module _ (n k m : ℕ) (q vals vecs : Vec) (o : ℕ → ℕ) where
+  one-laid : (t : ℕ) (x : Vec) → t < k → Laid n k vals o t x → Laid n k vals o (t + 1) (pair n k m q vals vecs (o t) t x)
   unfolding pair
   one-laid t x l h = record {
     long = replaced-long (k + t * n) n ys d lys room ∙ ld;
     values = λ p g. elim (ℕ-discrete p t) [
-      | yes e ↦ at-before (k + t * n) n ys d lys room p (omega arith) ∙ ap (at d) e ∙ getD-set-same x t v nan (omega (arith, h .long)) ∙ ap (λ (j : ℕ). at vals (getD o j 0)) (sym e)
+      | yes e ↦ at-before (k + t * n) n ys d lys room p (omega arith) ∙ ap (at d) e ∙ getD-set-same x t v nan (omega (arith, h .long)) ∙ ap (λ (j : ℕ). at vals (o j)) (sym e)
       | no f ↦ at-before (k + t * n) n ys d lys room p (omega arith) ∙ getD-set-other x t p v nan f ∙ h .values p (omega arith)
     ];
     rest = λ p g s. at-before (k + t * n) n ys d lys room p (omega arith) ∙ getD-set-other x t p v nan (λ e. omega arith) ∙ h .rest p (omega arith) s;
@@ -105,16 +105,16 @@ module _ (n k m : ℕ) (q vals vecs : Vec) (o : List ℕ) where
   }
     where
       v : Float
-      v = at vals (getD o t 0)
+      v = at vals (o t)
 
       d : Vec
       d = set x t v
 
       ys : Vec
-      ys = levelled n (ritz n m q vecs (getD o t 0))
+      ys = levelled n (ritz n m q vecs (o t))
 
       lys : length ys ≡ n
-      lys = levelled-long n (ritz n m q vecs (getD o t 0)) (ritz-long n m q vecs (getD o t 0))
+      lys = levelled-long n (ritz n m q vecs (o t)) (ritz-long n m q vecs (o t))
 
       ld : length d ≡ k + k * n
       ld = length-set x t v ∙ h .long
@@ -127,7 +127,7 @@ module _ (n k m : ℕ) (q vals vecs : Vec) (o : List ℕ) where
 
   all-laid : (t : ℕ) → t ≤ k → Laid n k vals o t (pairs n k m t q vals vecs o (zeros (k + k * n)))
   unfolding pairs
-  all-laid t l = upto-both (λ j x y. Laid n k vals o j x) (pairStep n k m q vals vecs o) (pairStep n k m q vals vecs o) 0 t (zeros (k + k * n)) (zeros (k + k * n)) (omega arith)
+  all-laid t l = upto-both (λ j x y. Laid n k vals o j x) (λ t x. pair n k m q vals vecs (o t) t x) (λ t x. pair n k m q vals vecs (o t) t x) 0 t (zeros (k + k * n)) (zeros (k + k * n)) (omega arith)
       (λ j x y p g h. one-laid j x (omega arith) h)
       (record {
         long = length-replicate (k + k * n) zero64;
@@ -169,8 +169,8 @@ module _ (n k limit edition : ℕ) (a b : Vec) (f : Fit n k limit edition) where
     array = refl;
     long = h .long;
     descends = λ i j p g.
-        let w = order-sorted value m fine (omega (arith, f .small)) in
-        subst (λ (y : Float). le y (at (foundOf n k limit edition a b m) i) ≡ true) (sym (h .values j g ∙ shown j)) (subst (λ (y : Float). le (value (getD o j 0)) y ≡ true) (sym (h .values i (omega arith) ∙ shown i)) (w .descends i j p (omega (arith, least-both k m .1))));
+        let w = order-sorted (at vals) m fine (omega (arith, f .small)) in
+        subst (λ (y : Float). le y (at (foundOf n k limit edition a b m) i) ≡ true) (sym (h .values j g)) (subst (λ (y : Float). le (at vals (o j)) y ≡ true) (sym (h .values i (omega arith))) (w .descends i j p (omega (arith, least-both k m .1))));
     values-rest = h .rest;
     rows-rest = h .rows;
   }
@@ -178,17 +178,11 @@ module _ (n k limit edition : ℕ) (a b : Vec) (f : Fit n k limit edition) where
       vals : Vec
       vals = valuesOf n k limit edition a b m
 
-      value : ℕ → Float
-      value i = at vals (0 + i)
+      o : ℕ → ℕ
+      o = order (at vals) m
 
-      o : List ℕ
-      o = order value m
-
-      shown : (p : ℕ) → at vals (getD o p 0) ≡ value (getD o p 0)
-      shown p = ap (at vals) (sym (zero-add (getD o p 0)))
-
-      fine : (i : ℕ) → i < m → isFinite (value i) ≡ true
-      fine i g = ap (λ (j : ℕ). isFinite (at vals j)) (zero-add i) ∙ ap isFinite (getD-take m (innerOf n k limit edition a b m .2) i nan g) ∙ finite-out m limit edition (matrixOf n k a b m) (zeros m) (zeros (m + m * m)) z i (omega arith)
+      fine : (i : ℕ) → i < m → isFinite (at vals i) ≡ true
+      fine i g = ap isFinite (getD-take m (innerOf n k limit edition a b m .2) i nan g) ∙ finite-out m limit edition (matrixOf n k a b m) (zeros m) (zeros (m + m * m)) z i (omega arith)
 
       h : Laid n k vals o (least k m) (foundOf n k limit edition a b m)
       h = all-laid n k m (stateAt n k a b (size n k) .1) vals (drop m (innerOf n k limit edition a b m .2)) o (least k m) (least-both k m .0)

@@ -23,7 +23,7 @@ use Rattle.lanczos_steps.specs.Krylov.{LanczosState}
 use Rattle.lanczos_pairs.specs.LeadingPairs.{looked, selected}
 use Rattle.lanczos.specs.Run.{none, paired, solved, ran}
 use Rattle.lanczos.specs.Checks.{checks}
-use Rattle.lanczos.specs.Lanczos.{lanczosEntered, lanczos}
+use Rattle.lanczos.specs.Lanczos.{lanczos}
 use Rattle.lanczos_theorems.specs.Early.{Outcome, Promised}
 
 -- of an outcome of the run with k pairs wanted
@@ -78,7 +78,7 @@ run-good : (n k limit edition : ℕ) (a b : Vec) → Good k (cond (passed (refus
 run-good n k limit edition a b = unless k (refusal7 (firstBad (a ++ b))) _ (zeros (k + k * n)) (ran-good n k limit edition a b)
 
 call-good : (n k limit edition : ℕ) (a b work x : Vec) → Good k (lanczos n k limit edition a b work x .0, lanczos n k limit edition a b work x .2)
-unfolding lanczos lanczosEntered
+unfolding lanczos
 call-good n k limit edition a b work x = go (passed c) refl
   where
     c : Answer

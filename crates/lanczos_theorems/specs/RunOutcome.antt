@@ -1,4 +1,4 @@
--- A run of `lanczos` told from its steps, and where each of its numbers is given. Definitions only.
+-- A run of `lanczos` from its steps, and where each of its numbers is given. Definitions only.
 -- The steps are the definition's own, one after the other; the inner call is `symmetric_eigen` on the tridiagonal matrix that they leave.
 use mathlib.Core.Path.{_≡_}
 use mathlib.Core.Logic.{_⊎_}
@@ -7,19 +7,18 @@ use mathlib.Core.List.{_++_}
 use Prim.Native.Nat.{ℕ, _+_, _*_, _<_, _≤_}
 use lib.Ieee.{Float, lt}
 use lib.ListN.{length, take, drop}
-use Rattle.grid.specs.Loop.{upto}
 use Rattle.grid.specs.Real.{Vec, zeros, at}
 use Rattle.leaves.specs.Leaf.{isFinite}
 use Rattle.leaves.specs.Scan.{classOf}
 use Rattle.leaves.specs.Finite.{Finite, First}
-use Rattle.answers.specs.Answers.{answered, done, refused, least}
+use Rattle.answers.specs.Answers.{answered, refused, least}
 use Rattle.answers.specs.declared.Answer.{Answer}
 use Rattle.gram_schmidt.specs.Gram.{dot, norm}
 use Rattle.matvec.specs.Matvec.{product}
 use Rattle.lanczos_steps.specs.Reorthogonalise.{twice}
-use Rattle.lanczos_steps.specs.StepEnd.{leastBeta, went}
+use Rattle.lanczos_steps.specs.StepEnd.{leastBeta}
 use Rattle.lanczos_steps.specs.StartVector.{started}
-use Rattle.lanczos_steps.specs.Krylov.{LanczosState, recurred, stepIfOn}
+use Rattle.lanczos_steps.specs.Krylov.{LanczosState, recurred, steps}
 use Rattle.svd_sort_svd_descending.specs.Order.{order}
 use Rattle.lanczos_pairs.specs.RitzPairs.{pairs}
 use Rattle.lanczos_pairs.specs.TridiagonalMatrix.{tri}
@@ -31,7 +30,7 @@ use Rattle.lanczos.specs.Checks.{size}
 
 -- how they stand before step j
 abbrev pub stateAt : ℕ → ℕ → Vec → Vec → ℕ → LanczosState
-stateAt n k a b j = upto (stepIfOn n a) 0 j (went true (done 0) 0, zeros (size n k * n), zeros 256, zeros 256, started n (norm n b) b)
+stateAt n k a b j = steps n j a (zeros (size n k * n)) (zeros 256) (zeros 256) (started n (norm n b) b)
 
 -- alpha of step j, and its beta
 abbrev pub alphaAt : ℕ → ℕ → Vec → Vec → ℕ → Float
@@ -77,7 +76,7 @@ valuesOf n k limit edition a b m = take m (innerOf n k limit edition a b m .2)
 abbrev pub foundOf : ℕ → ℕ → ℕ → ℕ → Vec → Vec → ℕ → Vec
 foundOf n k limit edition a b m =
     pairs n k m (least k m) (stateAt n k a b (size n k) .1) (valuesOf n k limit edition a b m) (drop m (innerOf n k limit edition a b m .2))
-    (order (λ (i : ℕ). at (valuesOf n k limit edition a b m) (0 + i)) m) (zeros (k + k * n))
+    (order (at (valuesOf n k limit edition a b m)) m) (zeros (k + k * n))
 
 -- ---- what a call that passes the checks on sizes, limit, edition and lengths gives: the four numbers and the answer array
 

@@ -32,8 +32,8 @@ use Rattle.lanczos_steps.specs.Reorthogonalise.{twice}
 use Rattle.lanczos_steps.specs.StepEnd.{leastBeta, went, stepEnded}
 use Rattle.lanczos_steps.specs.declared.step_end.Went.{Went}
 use Rattle.lanczos_steps.specs.StartVector.{started}
-use Rattle.lanczos_steps.specs.Krylov.{LanczosState, recurred, kept, step, stepIfOn, steps}
-use Rattle.lanczos_steps.specs.KrylovLaws.{Both, both-zeros, steps-fine, steps-few}
+use Rattle.lanczos_steps.specs.Krylov.{LanczosState, recurred, step, steps}
+use Rattle.lanczos_steps.specs.KrylovLaws.{stepIfOn, Both, both-zeros, steps-fine, steps-few}
 use Rattle.lanczos_pairs.specs.LeadingPairs.{looked, selected}
 use Rattle.lanczos_pairs.specs.TridiagonalMatrix.{tri}
 use Rattle.lanczos_pairs.specs.TridiagonalEigen.{inward}
@@ -46,7 +46,7 @@ use Rattle.eigen_theorems.specs.Taken.{says-ran}
 use Rattle.eigen_theorems.specs.Index.{index-points, index-zero}
 use Rattle.lanczos.specs.Run.{none, paired, solved, ran}
 use Rattle.lanczos.specs.Checks.{size, workLength, checks}
-use Rattle.lanczos.specs.Lanczos.{lanczosEntered, lanczos}
+use Rattle.lanczos.specs.Lanczos.{lanczos}
 use Rattle.lanczos_theorems.specs.Early.{Outcome, Promised}
 use Rattle.lanczos_theorems.specs.RunOutcome.{stateAt, alphaAt, betaAt, Goes, Clean, Stepped, all, early, matrixOf, innerOf, valuesOf, foundOf, Says, at-number, at-norm, at-alpha, at-beta, inner, at-answer, found, Points, the-norm, the-alpha, the-beta, the-inner, the-answer, LanczosAnswer, Fit}
 
@@ -81,7 +81,7 @@ module _ (n k : ℕ) (a b : Vec) where
 
   -- the step after j turns, of a run that goes on
   stepped-stands : (j : ℕ) → Clean n k a b j → Stands (j + 1) (step n a j (Now j .1) (Now j .2) (Now j .3) (Now j .4))
-  unfolding step kept stepEnded
+  unfolding step stepEnded
   stepped-stands j c = go (isFinite (alphaAt n k a b j)) refl (isFinite (betaAt n k a b j)) refl (lt leastBeta (betaAt n k a b j)) refl
     where
       end : Bool → Bool → Went × Vec × Vec
@@ -103,7 +103,6 @@ module _ (n k : ℕ) (a b : Vec) where
       go true e true f true g = goes refl refl refl (one-more j c (record { alpha = e; beta = f; wide = g }))
 
   next-stands : (j : ℕ) → Stands j (Now j) → Stands (j + 1) (stepIfOn n a j (Now j))
-  unfolding stepIfOn
   next-stands j h = go (Now j .0 .on) refl h
     where
       go : (o : Bool) → Now j .0 .on ≡ o → Stands j (Now j) → Stands (j + 1) (cond o (step n a j (Now j .1) (Now j .2) (Now j .3) (Now j .4)) (Now j))
@@ -114,6 +113,7 @@ module _ (n k : ℕ) (a b : Vec) where
       go false e h = later j (Now j) e h
 
   stands : (j : ℕ) → Stands j (Now j)
+  unfolding steps
   stands zero = subst (Stands 0) (sym (upto-none (stepIfOn n a) 0 _)) (goes refl refl refl (λ i l. absurd (omega arith)))
   stands (suc j) = rw (← add-one j) (subst (Stands (j + 1)) (sym (upto-more (stepIfOn n a) 0 j _ (omega arith))) (next-stands j (stands j)))
 
@@ -189,7 +189,6 @@ module _ (n k limit edition : ℕ) (a b : Vec) where
 
   -- the alphas and the betas are finite
   both : Both (Last .2) (Last .3)
-  unfolding steps
   both = steps-fine n (size n k) a (zeros (size n k * n)) (zeros 256) (zeros 256) (started n (norm n b) b) both-zeros
 
   -- so the inner call takes its matrix
@@ -206,21 +205,21 @@ module _ (n k limit edition : ℕ) (a b : Vec) where
   unfolding inward
   inner-ran f m l = says-ran m limit edition (matrixOf n k a b m) _ (OutcomeLaws.says m limit edition (matrixOf n k a b m) (zeros m) (zeros (m + m * m)) (inner-taken f m l))
 
-  abbrev Told : Answer × Vec → Type 0
-  Told = Says n k limit edition a b
+  abbrev RunGives : Answer × Vec → Type 0
+  RunGives = Says n k limit edition a b
 
   module _ (fine : Finite (a ++ b)) (start : isFinite (norm n b) ≡ true) where
-    paired-says : (m : ℕ) → m ≤ n → Stepped n k a b m → Told (paired n k m (Last .1) (innerOf n k limit edition a b m))
+    paired-says : (m : ℕ) → m ≤ n → Stepped n k a b m → RunGives (paired n k m (Last .1) (innerOf n k limit edition a b m))
     unfolding paired selected looked
     paired-says m l s = go (passed (innerOf n k limit edition a b m .0)) refl
       where
         more : innerOf n k limit edition a b m .0 .answer ≡ 0 → (y : Bad) → firstBad (foundOf n k limit edition a b m) ≡ y
-            → Told (cond (isBad y) (marked 6 (innerOf n k limit edition a b m .0 .count) y, zeros (length (foundOf n k limit edition a b m))) (answered 0 (least k m) 0 (innerOf n k limit edition a b m .0 .count), foundOf n k limit edition a b m))
+            → RunGives (cond (isBad y) (marked 6 (innerOf n k limit edition a b m .0 .count) y, zeros (length (foundOf n k limit edition a b m))) (answered 0 (least k m) 0 (innerOf n k limit edition a b m .0 .count), foundOf n k limit edition a b m))
         more z (At i c) e = at-answer fine start m l s z (scan-first (at (foundOf n k limit edition a b m)) (length (foundOf n k limit edition a b m)) i c e)
         more z Nowhere e = found fine start m l s z (firstBad-none (foundOf n k limit edition a b m) e)
 
         go : (t : Bool) → passed (innerOf n k limit edition a b m .0) ≡ t
-            → Told (cond t (cond (isBad (firstBad (foundOf n k limit edition a b m))) (marked 6 (innerOf n k limit edition a b m .0 .count) (firstBad (foundOf n k limit edition a b m)), zeros (length (foundOf n k limit edition a b m))) (answered 0 (least k m) 0 (innerOf n k limit edition a b m .0 .count), foundOf n k limit edition a b m)) (none n k (innerOf n k limit edition a b m .0)))
+            → RunGives (cond t (cond (isBad (firstBad (foundOf n k limit edition a b m))) (marked 6 (innerOf n k limit edition a b m .0 .count) (firstBad (foundOf n k limit edition a b m)), zeros (length (foundOf n k limit edition a b m))) (answered 0 (least k m) 0 (innerOf n k limit edition a b m .0 .count), foundOf n k limit edition a b m)) (none n k (innerOf n k limit edition a b m .0)))
         go true e = more (eqb-true _ 0 e) (firstBad (foundOf n k limit edition a b m)) refl
         go false e = inner fine start m l s (eqb-false _ 0 e)
 
@@ -236,39 +235,39 @@ module _ (n k limit edition : ℕ) (a b : Vec) where
         (λ i. cond (sym p i) (paired n k (Last .0 .dim) (Last .1) (inward (Last .0 .dim) limit edition (Last .2) (Last .3))) (none n k y))
         ∙ ap (λ (y : Answer). cond (passed y) (paired n k (Last .0 .dim) (Last .1) (inward (Last .0 .dim) limit edition (Last .2) (Last .3))) (none n k y)) (sym s)
 
-    solved-says : Told (solved n k limit edition Last)
+    solved-says : RunGives (solved n k limit edition Last)
     solved-says = go (stands n k a b (size n k))
       where
-        go : Stands n k a b (size n k) Last → Told (solved n k limit edition Last)
-        go (goes o s d c) = subst Told (solved-goes s (size n k) d) (paired-says (size n k) (size-most n k) (all c))
-        go (over o s i l d c p q r) = subst Told (solved-goes s (i + 1) d) (paired-says (i + 1) (omega (arith, size-most n k)) (early i l c p q r))
-        go (bad-alpha o i l c p s) = subst Told (solved-stops _ s (class-not (alphaAt n k a b i))) (at-alpha fine start i l c p)
-        go (bad-beta o i l c p q s) = subst Told (solved-stops _ s (class-not (betaAt n k a b i))) (at-beta fine start i l c p q)
+        go : Stands n k a b (size n k) Last → RunGives (solved n k limit edition Last)
+        go (goes o s d c) = subst RunGives (solved-goes s (size n k) d) (paired-says (size n k) (size-most n k) (all c))
+        go (over o s i l d c p q r) = subst RunGives (solved-goes s (i + 1) d) (paired-says (i + 1) (omega (arith, size-most n k)) (early i l c p q r))
+        go (bad-alpha o i l c p s) = subst RunGives (solved-stops _ s (class-not (alphaAt n k a b i))) (at-alpha fine start i l c p)
+        go (bad-beta o i l c p q s) = subst RunGives (solved-stops _ s (class-not (betaAt n k a b i))) (at-beta fine start i l c p q)
 
-  ran-says : Finite (a ++ b) → Told (ran n k limit edition a b)
-  unfolding ran steps
+  ran-says : Finite (a ++ b) → RunGives (ran n k limit edition a b)
+  unfolding ran
   ran-says fine = go (isFinite (norm n b)) refl
     where
-      go : (t : Bool) → isFinite (norm n b) ≡ t → Told (cond t (solved n k limit edition Last) (none n k (answered (classOf (norm n b)) 3 0 0)))
+      go : (t : Bool) → isFinite (norm n b) ≡ t → RunGives (cond t (solved n k limit edition Last) (none n k (answered (classOf (norm n b)) 3 0 0)))
       go true e = solved-says fine e
       go false e = at-norm fine e
 
-  run-says : Told (cond (passed (refusal7 (firstBad (a ++ b)))) (ran n k limit edition a b) (none n k (refusal7 (firstBad (a ++ b)))))
+  run-says : RunGives (cond (passed (refusal7 (firstBad (a ++ b)))) (ran n k limit edition a b) (none n k (refusal7 (firstBad (a ++ b)))))
   run-says = go (firstBad (a ++ b)) refl
     where
-      go : (y : Bad) → firstBad (a ++ b) ≡ y → Told (cond (passed (refusal7 y)) (ran n k limit edition a b) (none n k (refusal7 y)))
+      go : (y : Bad) → firstBad (a ++ b) ≡ y → RunGives (cond (passed (refusal7 y)) (ran n k limit edition a b) (none n k (refusal7 y)))
       go (At i c) e = at-number (scan-first (at (a ++ b)) (length (a ++ b)) i c e)
       go Nowhere e = ran-says (firstBad-none (a ++ b) e)
 
-  -- **lanczos-says**: a call that passes the checks is told by its steps
+  -- **lanczos-says**: a call that passes the checks gives what its steps say
   pub lanczos-says : (work x : Vec) → passed (checks n k limit edition (length a) (length b) (length work) (length x)) ≡ true
       → Says n k limit edition a b (lanczos n k limit edition a b work x .0, lanczos n k limit edition a b work x .2)
-  unfolding lanczos lanczosEntered
+  unfolding lanczos
   lanczos-says work x h = rw h run-says
 
   -- ---- what that says of the four numbers
 
-  says-points : (y : Answer × Vec) → Fit n k limit edition → Told y → AtMark (y .0) → Points n k limit edition a b (y .0)
+  says-points : (y : Answer × Vec) → Fit n k limit edition → RunGives y → AtMark (y .0) → Points n k limit edition a b (y .0)
   unfolding inward
   says-points y f (at-number g) u = absurd (⊎-elim (λ e. omega arith) (λ e. omega arith) u)
   says-points y f (at-norm g e) u = the-norm e refl
@@ -278,7 +277,7 @@ module _ (n k limit edition : ℕ) (a b : Vec) where
   says-points y f (at-answer g s m l p z q) u = the-answer m p q
   says-points y f (found g s m l p z q) u = absurd (⊎-elim (λ e. omega arith) (λ e. omega arith) u)
 
-  says-zero : (y : Answer × Vec) → Told y → (AtMark (y .0) → ⊥) → y .0 .index ≡ 0
+  says-zero : (y : Answer × Vec) → RunGives y → (AtMark (y .0) → ⊥) → y .0 .index ≡ 0
   unfolding inward
   says-zero y (at-number g) u = refl
   says-zero y (at-norm g e) u = refl
@@ -291,7 +290,7 @@ module _ (n k limit edition : ℕ) (a b : Vec) where
   class-answer : (x : ℕ) → Class x → LanczosAnswer x
   class-answer x = ⊎-elim (λ e. inr (inr (inr (inr (inr (inl e)))))) (λ e. inr (inr (inr (inr (inr (inr (inr (inl e))))))))
 
-  says-answer : (y : Answer × Vec) → Fit n k limit edition → Told y → LanczosAnswer (y .0 .answer)
+  says-answer : (y : Answer × Vec) → Fit n k limit edition → RunGives y → LanczosAnswer (y .0 .answer)
   says-answer y f (at-number g) = inr (inr (inr (inr (inl refl))))
   says-answer y f (at-norm g e) = class-answer _ (class-cases (norm n b))
   says-answer y f (at-alpha g s j l c e) = class-answer _ (class-cases (alphaAt n k a b j))
@@ -343,7 +342,7 @@ module _ (n k limit edition : ℕ) (a b work x : Vec) (y : Outcome) (p : Promise
   pub lanczos-says-calls : passed (checks n k limit edition (length a) (length b) (length work) (length x)) ≡ true → Says n k limit edition a b (y .0, y .2)
   lanczos-says-calls h = subst (λ (o : Outcome). Says n k limit edition a b (o .0, o .2)) (sym p) (lanczos-says n k limit edition a b work x h)
 
--- ---- and the other way: what is told is what the call gives, so each number is given exactly where it is told
+-- ---- and the other way: what the steps say is what the call gives, so each number is given exactly where they say it
 
 module _ (n k : ℕ) (a b : Vec) where
   -- why step i is the last
@@ -423,7 +422,7 @@ module _ (n k limit edition : ℕ) (a b : Vec) where
   Ran t = cond t (solved n k limit edition (stateAt n k a b (size n k))) (none n k (answered (classOf (norm n b)) 3 0 0))
 
   ran-by : (t : Bool) → isFinite (norm n b) ≡ t → ran n k limit edition a b ≡ Ran t
-  unfolding ran steps
+  unfolding ran
   ran-by t e = ap Ran e
 
   -- what the pairs come to
@@ -443,7 +442,7 @@ module _ (n k limit edition : ℕ) (a b : Vec) where
   unfolding looked
   looked-by f c x y e = ap (Looked f c x) e
 
-  -- **lanczos-told**
+  -- **lanczos-gives**
   says-is : (y : Answer × Vec) → Says n k limit edition a b y → Run (firstBad (a ++ b)) ≡ y
   says-is y (at-number {i = i} {c = c} g) = ap Run (first-scan (at (a ++ b)) (length (a ++ b)) i c g)
   says-is y (at-norm g e) = taken-run g ∙ ran-by false e
@@ -461,10 +460,10 @@ module _ (n k limit edition : ℕ) (a b : Vec) where
       taken-run g ∙ ran-by true s ∙ sym (solved-goes n k limit edition a b g s (q .0) m (q .1)) ∙ paired-looks m z
       ∙ looked-by (least k m) (innerOf n k limit edition a b m .0 .count) (foundOf n k limit edition a b m) Nowhere (firstBad-fine (foundOf n k limit edition a b m) f)
 
-  -- **lanczos-exactly**: of a call that passes the checks: (r, x) is what it answers, and the array, exactly where that is told of its steps; and work is all +0.0
+  -- **lanczos-exactly**: of a call that passes the checks: (r, x) is what it answers, and the array, exactly where its steps say that; and work is all +0.0
   lanczos-is : (work x : Vec) → passed (checks n k limit edition (length a) (length b) (length work) (length x)) ≡ true
       → lanczos n k limit edition a b work x ≡ (Run (firstBad (a ++ b)) .0, zeros (length work), Run (firstBad (a ++ b)) .1)
-  unfolding lanczos lanczosEntered
+  unfolding lanczos
   lanczos-is work x h = rw h
 
   pub lanczos-exactly-calls : (work x : Vec) (y : Outcome) → Promised n k limit edition a b work x y → passed (checks n k limit edition (length a) (length b) (length work) (length x)) ≡ true

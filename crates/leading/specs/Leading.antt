@@ -17,21 +17,12 @@ use Rattle.gram_schmidt.specs.Gram.{columnOf}
 unfoldable pub led : ℕ → ℕ → Vec → Vec
 led n k v = table (λ t. at v (n - 1 - t)) k ++ rows (λ t. columnOf n n (drop n v) (n - 1 - t)) k
 
--- what is answered on 0
-abbrev pub given : ℕ → ℕ → Vec → Answer × Vec
-given n k v = (done 0, led n k v)
-
 -- the checks, on lengths: 1, 15 and 6
 unfoldable pub checks : ℕ → ℕ → ℕ → ℕ → Answer
-checks n k v x =
-    cond (ltb 256 n) (refused 1 0)
-    (cond (ltb n k) (refused 15 0)
-    (lengths v (n + n * n) x (k + k * n) 0 0))
+checks n k v x = cond (ltb 256 n) (refused 1 0) (cond (ltb n k) (refused 15 0) (lengths v (n + n * n) x (k + k * n) 0 0))
 
 -- 1, 15 and 6 leave out as it was; 7, over the whole result, fills it with +0.0
 unfoldable pub leading : ℕ → ℕ → Vec → Vec → Answer × Vec
 leading n k v x =
     let check = checks n k (length v) (length x) in
-    cond (passed check)
-    (unlessBad (firstBad v) x (given n k v))
-    (check, x)
+    cond (passed check) (unlessBad (firstBad v) x (done 0, led n k v)) (check, x)

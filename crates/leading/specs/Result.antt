@@ -3,8 +3,6 @@ use mathlib.Core.Path.{_≡_, refl, sym, ap, _∙_, subst}
 use mathlib.Core.List.{_++_}
 use mathlib.Core.Bool.{Bool, true, false, cond}
 use Prim.Native.Nat.{ℕ, zero, suc, _+_, _-_, _*_, _≤_, _<_}
-use native.Mathlib.Decide.{ℕ-discrete}
-use native.Mathlib.Nat.{zero-mul, suc-mul}
 use native.Mathlib.Omega.{arith}
 use borrow.Author.Tests.{eqb-true, eqb-false}
 use lib.Ieee.{nan, le}
@@ -13,7 +11,7 @@ use lib.Seq.{getD-append-add, getD-drop}
 use Rattle.grid.specs.Real.{Vec, at}
 use Rattle.grid.specs.CellLaws.{cell}
 use Rattle.grid.specs.Table.{table, rows}
-use Rattle.grid.specs.TableLaws.{length-table, length-rows, at-table, row-end}
+use Rattle.grid.specs.TableLaws.{length-table, length-rows, at-table, at-rows}
 use Rattle.leaves.specs.Leaf.{isFinite}
 use Rattle.leaves.specs.Finite.{Finite}
 use Rattle.leaves.specs.FiniteLaws.{both-finite}
@@ -21,12 +19,16 @@ use Rattle.leaves.specs.Scan.{firstBad}
 use Rattle.leaves.specs.ScanLaws.{firstBad-none, firstBad-fine}
 use Rattle.leaves.specs.declared.Bad.{Bad}
 use Rattle.leaves.specs.declared.Bad.the-variants.{At, Nowhere}
-use Rattle.answers.specs.Answers.{passed, unlessBad}
+use Rattle.answers.specs.Answers.{done, passed, unlessBad}
 use Rattle.answers.specs.OutcomeLaws.{same-bad}
 use Rattle.answers.specs.declared.Answer.{Answer}
 use Rattle.gram_schmidt.specs.Gram.{columnOf}
-use Rattle.leading.specs.Leading.{led, given, checks, leading}
+use Rattle.leading.specs.Leading.{led, checks, leading}
 use Rattle.leading.specs.ChecksLaws.{Checked, checked, checks-pass}
+
+-- what is answered on 0
+abbrev pub given : ℕ → ℕ → Vec → Answer × Vec
+given n k v = (done 0, led n k v)
 
 -- two outcomes that satisfy the promise are one
 pub leading-one : (n k : ℕ) (v x : Vec) (o p : Answer × Vec) → o ≡ leading n k v x → p ≡ leading n k v x → o ≡ p
@@ -65,17 +67,6 @@ unfolding leading
 leading-untouched n k v x h = rw h
 
 -- ---- number by number
-
-at-rows : (f : ℕ → Vec) (m k t i : ℕ) → ((j : ℕ) → length (f j) ≡ m) → t < k → i < m → at (rows f k) (t * m + i) ≡ at (f t) i
-unfolding rows
-at-rows f m zero t i h p q = absurd (omega arith)
-at-rows f m (suc k) t i h p q = elim (ℕ-discrete t k) [
-  | yes e ↦
-      ap (λ (j : ℕ). at (rows f k ++ f k) (j + i)) (ap (λ (j : ℕ). j * m) e ∙ sym (length-rows f m k h))
-      ∙ getD-append-add (rows f k) (f k) i nan ∙ ap (λ (j : ℕ). at (f j) i) (sym e)
-  | no d ↦
-      List·getD-append (rows f k) (f k) nan (t * m + i) (omega (arith, length-rows f m k h, row-end k m t (omega arith))) ∙ at-rows f m k t i h (omega arith) q
-]
 
 module _ (n k : ℕ) (v : Vec) where
   abbrev row : ℕ → Vec

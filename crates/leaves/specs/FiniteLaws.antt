@@ -19,8 +19,8 @@ use Rattle.grid.specs.CellLaws.{cell, place-row, place-column}
 use Rattle.grid.specs.TableLaws.{length-table, at-table}
 use Rattle.leaves.specs.Leaf.{isFinite}
 use Rattle.leaves.specs.Finite.{Finite, NotFinite}
-use Rattle.leaves.specs.Scan.{isBad, firstBad, firstBadLower, lowerOf, lowerAt, placeOf, cellAt, byRows}
-use Rattle.leaves.specs.ScanLaws.{scan-none, scan-fine, firstBad-none, firstBad-fine, not-bad, scan-both}
+use Rattle.leaves.specs.Scan.{isBad, firstBad, firstBadLower, byRows, placeOf, lowerOf}
+use Rattle.leaves.specs.ScanLaws.{scan-none, scan-fine, firstBad-none, firstBad-fine, not-bad, scan-both, cellAt, lowerAt}
 use Rattle.leaves.specs.declared.Bad.the-variants.{Nowhere}
 
 -- that all are finite, looked at one by one
@@ -53,7 +53,7 @@ module _ (rows cols : ℕ) (v : Vec) (long : length v ≡ rows * cols) where
       ∙ (λ k. at2 v (c k) (r k) (s k))
 
   pub by-rows-long : length (byRows cols v) ≡ rows * cols
-  unfolding byRows
+  unfolding byRows placeOf
   by-rows-long = length-table (cellAt (length v / cols) cols v) (length v / cols * cols) ∙ go cols refl
     where
       go : (c : ℕ) → cols ≡ c → length v / cols * cols ≡ rows * cols
@@ -75,7 +75,7 @@ module _ (rows cols : ℕ) (v : Vec) (long : length v ≡ rows * cols) where
 
 -- the list is no longer than the matrix, and finite where it is, whatever its length
 rows-long : (cols : ℕ) (v : Vec) → length (byRows cols v) ≡ length v / cols * cols
-unfolding byRows
+unfolding byRows placeOf
 rows-long cols v = length-table (cellAt (length v / cols) cols v) (length v / cols * cols)
 
 pub rows-fit : (cols : ℕ) (v : Vec) → length (byRows cols v) ≤ length v

@@ -10,8 +10,7 @@ magnitude nan = nan
 magnitude (inf s) = inf false
 magnitude (fin s m e) = fin false m e
 
--- the Rust's `max` on what can occur there. With a NaN on the left it gives the NaN, where `f64::max` gives b: but on the left stands tst1 alone, which
--- starts at 0 (`plus-zero`) and is no NaN from one l to the next, whatever stands on the right (`plus-larger`; both eigen_theorems/specs/Tql2Invariant.antt)
+-- the Rust's `max` but with a NaN on the left: there stands tst1 alone, which is never one (`plus-zero`, `plus-larger`, eigen_theorems/specs/Tql2Invariant.antt)
 unfoldable pub larger : Float → Float → Float
 larger a b = cond (lt a b) b a
 

@@ -14,11 +14,11 @@ use lib.ListN.{length, length-append, List·getD-append}
 use lib.Seq.{getD-append-add}
 use Rattle.grid.specs.Loop.{seek, first}
 use Rattle.grid.specs.Real.{Vec, at}
-use Rattle.grid.specs.Cell.{entry}
+use Rattle.grid.specs.Cell.{entry, at2}
 use Rattle.grid.specs.Table.{table}
 use Rattle.grid.specs.TableLaws.{length-table, at-table}
 use Rattle.leaves.specs.Leaf.{isFinite}
-use Rattle.leaves.specs.Scan.{classOf, isBad, found, scan, firstBad, placeOf, lowerOf, lowerAt, firstBadLower, cellAt, byRows}
+use Rattle.leaves.specs.Scan.{classOf, isBad, scan, firstBad, firstBadLower, byRows, placeOf, lowerOf}
 use Rattle.leaves.specs.Finite.{Finite, First}
 use Rattle.leaves.specs.declared.Bad.{Bad}
 use Rattle.leaves.specs.declared.Bad.the-variants.{At, Nowhere}
@@ -68,6 +68,10 @@ seek-never : (a k : ℕ) → seek (λ j. false) a k ≡ a + k
 unfolding seek
 seek-never a zero = omega arith
 seek-never a (suc k) = seek-never (a + 1) k ∙ omega arith
+
+-- a search among n numbers x ended at k
+abbrev pub found : (ℕ → Float) → ℕ → ℕ → Bad
+found x k n = cond (ltb k n) (At k (classOf (x k))) Nowhere
 
 found-out : (x : ℕ → Float) (r n : ℕ) → found x r n ≡ Nowhere → n ≤ r
 found-out x r n e = go (ltb r n) refl
@@ -245,11 +249,15 @@ scan-both d e = go (firstBad d) refl (firstBad e) refl
 
 -- ---- a matrix, row by row, without making the list
 
+-- number k, counted row by row, of the worked-on matrix v
+abbrev pub cellAt : ℕ → ℕ → Vec → ℕ → Float
+cellAt rows cols v k = at2 v rows (placeOf cols k .i) (placeOf cols k .j)
+
 unfoldable pub firstBadOf : ℕ → ℕ → Vec → Bad
 firstBadOf rows cols v = scan (cellAt rows cols v) (rows * cols)
 
 pub by-rows : (cols : ℕ) (v : Vec) → firstBadOf (length v / cols) cols v ≡ firstBad (byRows cols v)
-unfolding firstBadOf byRows
+unfolding firstBadOf byRows placeOf
 by-rows cols v =
     let n : ℕ = length v / cols * cols in
     let f : ℕ → Float = cellAt (length v / cols) cols v in
@@ -286,6 +294,14 @@ fine-no-first d i c h f = true≢false (sym (h i (f .within)) ∙ f .seen)
 
 -- ---- the scan below the diagonal sees nothing above it
 
+-- number k of the matrix a, as it is read
+abbrev pub lowerAt : ℕ → Vec → ℕ → Float
+lowerAt n a k = lowerOf (placeOf n k) (at a k)
+
+pub lower-is : (n : ℕ) (a : Vec) → scan (lowerAt n a) (length a) ≡ firstBadLower n a
+unfolding firstBadLower lowerOf placeOf
+lower-is n a = refl
+
 lower-number : (n : ℕ) (a b : Vec) → ((i j : ℕ) → j ≤ i → i < n → entry a n i j ≡ entry b n i j) → (k : ℕ) → k < n * n → lowerAt n a k ≡ lowerAt n b k
 unfolding lowerOf placeOf
 lower-number zero a b h k l = absurd (omega arith)
@@ -300,5 +316,5 @@ lower-number (suc m) a b h k l = go (leb (k % suc m) (k / suc m)) refl
 
 pub lower-same : (n : ℕ) (a b : Vec) → length a ≡ n * n → length b ≡ n * n
     → ((i j : ℕ) → j ≤ i → i < n → entry a n i j ≡ entry b n i j) → firstBadLower n a ≡ firstBadLower n b
-unfolding firstBadLower
-lower-same n a b la lb h = rw (la, lb) (scan-same (lowerAt n a) (lowerAt n b) (n * n) (lower-number n a b h))
+lower-same n a b la lb h =
+    sym (lower-is n a) ∙ rw (la, lb) (scan-same (lowerAt n a) (lowerAt n b) (n * n) (lower-number n a b h)) ∙ lower-is n b

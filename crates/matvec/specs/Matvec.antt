@@ -17,25 +17,13 @@ rowOf n j q = part (j * n) (j * n + n) q
 abbrev pub replaced : ℕ → ℕ → Vec → Vec → Vec
 replaced a e ys d = take a d ++ (ys ++ drop (e - a) (drop a d))
 
--- row i of the n by n matrix a by v
-abbrev pub rowStep : ℕ → Vec → Vec → ℕ → ℕ → Float → Float
-rowStep n a v i j acc = acc ⊕ entry a n i j ⊗ at v j
-
--- row i of a times v, summed over j from 0 on, starting at +0.0
-abbrev pub rowDot : ℕ → Vec → Vec → ℕ → Float
-rowDot n a v i = upto (rowStep n a v i) 0 n zero64
-
--- `matvec`
+-- `matvec`: row i of the n by n matrix a times v, summed over j from 0 on, starting at +0.0
 unfoldable pub product : ℕ → Vec → Vec → Vec
-product n a v = table (rowDot n a v) n
+product n a v = table (λ i. upto (λ j acc. acc ⊕ entry a n i j ⊗ at v j) 0 n zero64) n
 
 -- `scaled_add`: w and f times u
-abbrev pub addStep : Float → Vec → ℕ → Vec → Vec
-addStep f u i w = set w i (at w i ⊕ f ⊗ at u i)
-
--- `scaled_add` at each of the n places
 unfoldable pub added : ℕ → Float → Vec → Vec → Vec
-added n f u w = upto (addStep f u) 0 n w
+added n f u w = upto (λ i w. set w i (at w i ⊕ f ⊗ at u i)) 0 n w
 
 -- w less its part along u
 unfoldable pub without : ℕ → Vec → Vec → Vec

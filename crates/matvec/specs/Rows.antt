@@ -12,9 +12,17 @@ use lib.Seq.{getD-set-other}
 use Rattle.grid.specs.Loop.{upto}
 use Rattle.grid.specs.LoopLaws.{next, done, upto-keeps}
 use Rattle.grid.specs.Real.{Vec, at, zero64, _⊕_, _⊗_}
+use Rattle.grid.specs.Cell.{entry}
 use Rattle.grid.specs.TableLaws.{at-table, each}
-use Rattle.gram_schmidt.specs.Gram.{dotStep, dot}
-use Rattle.matvec.specs.Matvec.{rowDot, product, addStep, added}
+use Rattle.gram_schmidt.specs.Gram.{dot}
+use Rattle.matvec.specs.Matvec.{product, added}
+
+-- row i of a by v
+abbrev pub rowStep : ℕ → Vec → Vec → ℕ → ℕ → Float → Float
+rowStep n a v i j acc = acc ⊕ entry a n i j ⊗ at v j
+
+abbrev pub rowDot : ℕ → Vec → Vec → ℕ → Float
+rowDot n a v i = upto (rowStep n a v i) 0 n zero64
 
 abbrev pub putDot : ℕ → Vec → Vec → ℕ → Vec → Vec
 putDot n a v i w = set w i (rowDot n a v i)
@@ -63,6 +71,9 @@ all-rows n a v w p q l e = done (putDot n a v) 0 w p q e ∙ each (λ j x. rowDo
 unfoldable pub addedDot : ℕ → Float → Vec → Vec → Vec → Float × Vec
 addedDot n f u t w = (dot n (added n f u w) t, added n f u w)
 
+abbrev addStep : Float → Vec → ℕ → Vec → Vec
+addStep f u i w = set w i (at w i ⊕ f ⊗ at u i)
+
 -- number i is w's until its turn comes
 before-turn : (f : Float) (u w : Vec) (i : ℕ) → at (upto (addStep f u) 0 i w) i ≡ at w i
 before-turn f u w i =
@@ -76,7 +87,7 @@ at-turn n f u w i l g e =
     ∙ sym (at-table (λ j. at w j ⊕ f ⊗ at u j) n i l)
     ∙ ap (λ (v : Vec). at v i) (sym (each (λ j y. y ⊕ f ⊗ at u j) w n g))
 
-pub add-dot-done : (n : ℕ) (f : Float) (u t w : Vec) (i : ℕ) {x : Vec} {acc : Float} → i ≤ n → n ≤ i → x ≡ upto (addStep f u) 0 i w → acc ≡ upto (dotStep (added n f u w) t) 0 i zero64
+pub add-dot-done : (n : ℕ) (f : Float) (u t w : Vec) (i : ℕ) {x : Vec} {acc : Float} → i ≤ n → n ≤ i → x ≡ upto (addStep f u) 0 i w → acc ≡ upto (λ row acc. acc ⊕ at (added n f u w) row ⊗ at t row) 0 i zero64
     → _≡_ {A = Float × Vec} (acc, x) (addedDot n f u t w)
 unfolding addedDot dot added
-add-dot-done n f u t w i p q e g = λ k. (done (dotStep (added n f u w) t) 0 zero64 p q g k, done (addStep f u) 0 w p q e k)
+add-dot-done n f u t w i p q e g = λ k. (done (λ row acc. acc ⊕ at (added n f u w) row ⊗ at t row) 0 zero64 p q g k, done (addStep f u) 0 w p q e k)

@@ -9,7 +9,8 @@ use Rattle.grid.specs.LoopLaws.{upto-same}
 use Rattle.grid.specs.Real.{Vec, at, zero64, _⊕_, _⊗_}
 use Rattle.grid.specs.Cell.{entry}
 use Rattle.grid.specs.TableLaws.{table-same, turns}
-use Rattle.matvec.specs.Matvec.{rowStep, product}
+use Rattle.matvec.specs.Matvec.{product}
+use Rattle.matvec.specs.Rows.{rowStep}
 use Rattle.matvec.specs.Strips.{columnStep}
 
 -- ---- whether a matrix is symmetric
@@ -17,11 +18,11 @@ use Rattle.matvec.specs.Strips.{columnStep}
 abbrev pub Row : ℕ → Vec → ℕ → Type 0
 Row n a i = (j : ℕ) → j < i → entry a n i j ≡ entry a n j i
 
-abbrev pub Mirror : ℕ → Vec → Type 0
-Mirror n a = (i j : ℕ) → i < n → j < n → entry a n i j ≡ entry a n j i
+abbrev pub Symmetric : ℕ → Vec → Type 0
+Symmetric n a = (i j : ℕ) → i < n → j < n → entry a n i j ≡ entry a n j i
 
-pub mirror-of : (n : ℕ) (a : Vec) → ((i : ℕ) → i < n → Row n a i) → Mirror n a
-mirror-of n a h i j p q = elim (decLt j i) [
+pub symmetric-of : (n : ℕ) (a : Vec) → ((i : ℕ) → i < n → Row n a i) → Symmetric n a
+symmetric-of n a h i j p q = elim (decLt j i) [
   | yes l ↦ h i p j l
   | no l ↦ elim (ℕ-discrete i j) [
     | yes e ↦ (λ k. entry a n (e k) (sym e k))
@@ -66,13 +67,13 @@ four-rows n a i c p h f k l = elim (decLt k c) [
     last : (k < c → ⊥) → (k ≡ c → ⊥) → (k ≡ c + 1 → ⊥) → (k ≡ c + 2 → ⊥) → k ≡ c + 3
     last m d d1 d2 = omega arith
 
-pub mirror-fours : (n : ℕ) (a : Vec) (i : ℕ) → i + 3 < n → Mirror n a → (j : ℕ) → j < i + 3 → Fours n a i j
-mirror-fours n a i h m j l =
+pub symmetric-fours : (n : ℕ) (a : Vec) (i : ℕ) → i + 3 < n → Symmetric n a → (j : ℕ) → j < i + 3 → Fours n a i j
+symmetric-fours n a i h m j l =
     record { first = m i j (omega arith) (omega arith); second = m (i + 1) j (omega arith) (omega arith); third = m (i + 2) j (omega arith) (omega arith); fourth = m (i + 3) j (omega arith) (omega arith) }
 
 -- ---- the product
 
-pub rows-are-product : (n : ℕ) (a v : Vec) {w : Vec} → Mirror n a → w ≡ turns (columnStep n a v) n n → w ≡ product n a v
+pub rows-are-product : (n : ℕ) (a v : Vec) {w : Vec} → Symmetric n a → w ≡ turns (columnStep n a v) n n → w ≡ product n a v
 unfolding turns product
 rows-are-product n a v m e =
     e ∙ table-same _ _ n (λ i p. upto-same (columnStep n a v i) (rowStep n a v i) 0 n zero64 (λ j x _ q. ap (λ (y : Float). x ⊕ y ⊗ at v j) (m j i q p)))

@@ -6,7 +6,7 @@ ghost use mathlib.Core.Logic.{_↔_};
 ghost use Prim.Native.Nat.{ℕ, _+_, _*_, _<_, _≤_};
 ghost use lib.ListN.{length};
 ghost use Rattle.matvec.specs.Matvec.{product};
-ghost use Rattle.matvec.specs.Symmetry.{Fours, Mirror};
+ghost use Rattle.matvec.specs.Symmetry.{Fours, Symmetric};
 use crate::dots;
 use crate::weighted_rows::sum;
 use grid::entry;
@@ -52,9 +52,9 @@ fn rows_same(n: usize, i: usize, a: &[f64]) -> bool
 }
 
 // Whether the n by n matrix a has four rows or more and is symmetric. Below four rows the dots are as good.
-pub fn mirrored(n: usize, a: &[f64]) -> bool
+pub fn is_symmetric(n: usize, a: &[f64]) -> bool
     requires { ⌜ (n ≤ 256) × (length (now a) ≡ n * n) ⌝ }
-    ensures { λ r. ⌜ (r ≡ true) ↔ ((4 ≤ n) × Mirror n (now (a .entry))) ⌝ }
+    ensures { λ r. ⌜ (r ≡ true) ↔ ((4 ≤ n) × Symmetric n (now (a .entry))) ⌝ }
 {
     if n < 4 {
         return false;
@@ -71,12 +71,12 @@ pub fn mirrored(n: usize, a: &[f64]) -> bool
 
 // ---- the product
 
-// The n by n matrix a by v; mirror says that a is symmetric.
-pub fn product(n: usize, mirror: bool, a: &[f64], v: &[f64], w: &mut [f64])
-    requires { ⌜ (n ≤ 256) × (mirror ≡ true → Mirror n (now a)) × (length (now a) ≡ n * n) × (length (now v) ≡ n) × (length (now w) ≡ n) ⌝ }
+// The n by n matrix a by v; symmetric says that a is symmetric.
+pub fn product(n: usize, symmetric: bool, a: &[f64], v: &[f64], w: &mut [f64])
+    requires { ⌜ (n ≤ 256) × (symmetric ≡ true → Symmetric n (now a)) × (length (now a) ≡ n * n) × (length (now v) ≡ n) × (length (now w) ≡ n) ⌝ }
     ensures { λ _. ⌜ now (w .exit) ≡ product n (now (a .entry)) (now (v .entry)) ⌝ }
 {
-    if mirror {
+    if symmetric {
         sum(n, n, n, a, v, w);
     } else {
         dots(n, a, v, w);

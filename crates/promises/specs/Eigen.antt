@@ -90,7 +90,7 @@ pub t9-mark2-exactly : (n limit edition : ℕ) (a work result : Vec) (x : Outcom
     → (b i c : ℕ) → Class b → (x .0 ≡ answered b 2 i c) ↔ Broken2 n limit edition a b i c
 t9-mark2-exactly = mark2-exactly-calls
 
--- What is told of a call that passes those checks (`Says`) is told of one outcome alone: the cases shut each other out.
+-- What is said of a call that passes those checks (`Says`) is said of one outcome alone: the cases shut each other out.
 pub t9-says-once : (n limit edition : ℕ) (a : Vec) (o p : Outcome) → Says n limit edition a o → Says n limit edition a p → o ≡ p
 t9-says-once = says-once
 

@@ -63,12 +63,12 @@ pub t40-lanczos-answers : (n k limit edition : ℕ) (a b work x : Vec) (y : Outc
     → (y .0 .answer ≡ 0) ⊎ ((y .0 .answer ≡ 1) ⊎ ((y .0 .answer ≡ 2) ⊎ ((y .0 .answer ≡ 6) ⊎ ((y .0 .answer ≡ 7) ⊎ ((y .0 .answer ≡ 8) ⊎ ((y .0 .answer ≡ 9) ⊎ ((y .0 .answer ≡ 10) ⊎ ((y .0 .answer ≡ 12) ⊎ ((y .0 .answer ≡ 14) ⊎ (y .0 .answer ≡ 15))))))))))
 t40-lanczos-answers = lanczos-answers-calls
 
--- A call that passes checks 1, 2, 12, 14, 15 and 6 gives what is told of the definition's own steps (`Says`): each answer with its place, index and count, and the answer array.
+-- A call that passes checks 1, 2, 12, 14, 15 and 6 gives what the definition's own steps say (`Says`): each answer with its place, index and count, and the answer array.
 pub t40-lanczos-says : (n k limit edition : ℕ) (a b work x : Vec) (y : Outcome) (p : Promised n k limit edition a b work x y)
     → passed (checks n k limit edition (length a) (length b) (length work) (length x)) ≡ true → Says n k limit edition a b (y .0, y .2)
 t40-lanczos-says = lanczos-says-calls
 
--- And it gives an answer and an array exactly where they are so told, with work all +0.0.
+-- And it gives an answer and an array exactly where the steps say them, with work all +0.0.
 pub t40-lanczos-exactly : (n k limit edition : ℕ) (a b : Vec) → (work x : Vec) (y : Outcome) → Promised n k limit edition a b work x y
     → passed (checks n k limit edition (length a) (length b) (length work) (length x)) ≡ true → (r : Answer) (z : Vec)
     → (y ≡ (r, zeros (length work), z)) ↔ Says n k limit edition a b (r, z)

@@ -4,7 +4,7 @@ use mathlib.Core.Logic.{_↔_, _⊎_}
 use mathlib.Core.Path.{_≡_}
 use Prim.Native.Nat.{_*_, _+_, _<_, _≤_, ℕ}
 use lib.Ieee.{Float, le}
-use lib.ListN.{drop, getD, length, take}
+use lib.ListN.{drop, length, take}
 use Rattle.answers.specs.Answers.{answered, decompositionLength, done, least}
 use Rattle.answers.specs.Early.{Early}
 use Rattle.answers.specs.Index.{AtMark}
@@ -12,8 +12,8 @@ use Rattle.calls_theorems.specs.Svd.{svd-cells-u-calls, svd-cells-vt-calls, svd
 use Rattle.grid.specs.Real.{Vec, at, zeros}
 use Rattle.leaves.specs.Leaf.{isFinite}
 use Rattle.svd_sort_svd_descending.specs.Order.{order}
-use Rattle.svd_theorems.specs.Document.{Sorted, plainSvd, plainWork, valueOf}
-use Rattle.svd_theorems.specs.Outcome.{Broken2, Done, Halted, Outcome, Promised, Taken, orderOf, uCell, uFactor, vFactor, vtCell}
+use Rattle.svd_theorems.specs.Document.{Sorted, plainSvd, plainWork}
+use Rattle.svd_theorems.specs.Outcome.{Broken2, Done, Halted, Outcome, Promised, Taken, uCell, vtCell}
 use Rattle.svd_theorems.specs.OutcomeLaws.{svd-done-result, svd-limit-spent}
 use Rattle.svd_theorems.specs.Index.{Points}
 use Rattle.svd_theorems.specs.Promise.{svd-one-outcome, svd-plain, svd-sorted, svd-values}
@@ -22,7 +22,7 @@ use Rattle.svd_theorems.specs.SweepsOutcome.{bad, used}
 use Rattle.svd.specs.VtRowPlaced.{extent-at, extent-part}
 use Rattle.svd.specs.VtRow.{extentOf, partAt, partOf, rowSpan}
 use Rattle.svd.specs.declared.vt_row.Span.{Span}
-use Rattle.svd_sort_svd_descending.specs.Result.{longest, sortedOut, workLength}
+use Rattle.svd_sort_svd_descending.specs.Result.{longest, orderOf, sortedOut, uFactor, vFactor, valueOf, workLength}
 use Rattle.svd.specs.Svd.{svd}
 use Rattle.svd_jacobi_svd_tall.specs.SingularValues.{normalised}
 
@@ -44,7 +44,7 @@ t7-svd-sorted = svd-sorted
 -- And the values are the run's in that order.
 pub t7-svd-values : (m n wantU wantVt limit : ℕ) (matrix work result : Vec) (z : svd m n wantU wantVt limit matrix work result .0 .answer ≡ 0)
     → (k : ℕ) → k < least m n
-    → at (svd m n wantU wantVt limit matrix work result .2) k ≡ valueOf m n (plainWork m n matrix) (getD (order (valueOf m n (plainWork m n matrix)) (least m n)) k 0)
+    → at (svd m n wantU wantVt limit matrix work result .2) k ≡ valueOf m n (plainWork m n matrix) (order (valueOf m n (plainWork m n matrix)) (least m n) k)
 t7-svd-values = svd-values
 
 -- On answer 0 the values descend.
@@ -64,7 +64,7 @@ t9-svd-done-exactly = svd-done-exactly-calls
 -- And then the whole outcome is theirs: the answer with its count, work all +0.0, and the result.
 pub t9-svd-done-result : (m n wantU wantVt limit : ℕ) (matrix work result : Vec) (f : Taken m n wantU wantVt limit matrix work result)
     → (c : ℕ) (d : Done m n limit matrix c)
-    → svd m n wantU wantVt limit matrix work result ≡ (done c, zeros (workLength m n), sortedOut m n wantU wantVt (normalised (longest m n) (least m n) (d .last)) (zeros (decompositionLength m n wantU wantVt)))
+    → svd m n wantU wantVt limit matrix work result ≡ (done c, zeros (workLength m n), sortedOut m n wantU wantVt (normalised (longest m n) (least m n) (d .last)))
 t9-svd-done-result = svd-done-result
 
 -- Such a call answers 9 with c as place and count exactly where the sweeps are used up after c of them.
@@ -120,19 +120,19 @@ t13-svd-limit-raised = svd-limit-raised-calls
 -- On answer 0, with U, cell (i, k) of U is the run's, in the column that comes to place k.
 pub t13-svd-cells-u : (m n u vt limit : ℕ) (matrix work result : Vec) (x : Outcome) (p : Promised m n u vt limit matrix work result x) (z : x .0 .answer ≡ 0)
     → (u ≡ 0 → ⊥) → (i k : ℕ) → i < m → k < least m n
-    → at (x .2) (uCell m n i k) ≡ uFactor m n (plainWork m n matrix) i (getD (orderOf m n (plainWork m n matrix)) k 0)
+    → at (x .2) (uCell m n i k) ≡ uFactor m n (plainWork m n matrix) i (orderOf m n (plainWork m n matrix) k)
 t13-svd-cells-u = svd-cells-u-calls
 
 -- On answer 0, with V^T, cell (k, j) of V^T is the run's, in the column that comes to place k.
 pub t13-svd-cells-vt : (m n u vt limit : ℕ) (matrix work result : Vec) (x : Outcome) (p : Promised m n u vt limit matrix work result x) (z : x .0 .answer ≡ 0)
     → (vt ≡ 0 → ⊥) → (k j : ℕ) → k < least m n → j < n
-    → at (x .2) (vtCell m n u k j) ≡ vFactor m n (plainWork m n matrix) j (getD (orderOf m n (plainWork m n matrix)) k 0)
+    → at (x .2) (vtCell m n u k j) ≡ vFactor m n (plainWork m n matrix) j (orderOf m n (plainWork m n matrix) k)
 t13-svd-cells-vt = svd-cells-vt-calls
 
 -- On answer 0, with V^T, `vt_row` k is that column of V.
 pub t13-vt-row-cells : (m n u vt limit : ℕ) (matrix work result : Vec) (x : Outcome) (p : Promised m n u vt limit matrix work result x) (z : x .0 .answer ≡ 0)
     → (vt ≡ 0 → ⊥) → (k j : ℕ) → k < least m n → j < n
-    → at (partOf (x .2) (rowSpan (length (x .2)) m n u vt k)) j ≡ vFactor m n (plainWork m n matrix) j (getD (orderOf m n (plainWork m n matrix)) k 0)
+    → at (partOf (x .2) (rowSpan (length (x .2)) m n u vt k)) j ≡ vFactor m n (plainWork m n matrix) j (orderOf m n (plainWork m n matrix) k)
 t13-vt-row-cells = vt-row-cells-calls
 
 -- C's two numbers of a row, start and length, name the part that `vt_row` returns.

@@ -5,25 +5,25 @@ use Prim.Native.Nat.{ℕ}
 use Rattle.tally_definition.specs.Figures.{Tile}
 use Rattle.tally_definition.specs.Series.{figures, series}
 use Rattle.tally_definition.specs.Tallies.{none}
-use Rattle.text_tiles_definition.specs.LineLaws.{one-series, tallied-figures, tallied-series, told}
-use Rattle.text_tiles_definition.specs.Lines.{Full, Reads, Told, fresh, heard, run, tallied, whole}
+use Rattle.text_tiles_definition.specs.LineLaws.{one-series, tallied-figures, tallied-series, starts}
+use Rattle.text_tiles_definition.specs.Lines.{Full, Reads, StartsWith, fresh, heard, run, tallied, whole}
 use Rattle.text_tiles_definition.specs.StepLaws.{heard-tallied, run-append}
 use Rattle.text_tiles_definition.specs.declared.Series.{Series}
 
 -- Every text is the lines of some tiles, none of which is refused, and then something that starts with no line of a tile that is taken.
-pub t32-told : (t : List ℕ) → Reads t
-t32-told = told
+pub t32-starts : (t : List ℕ) → Reads t
+t32-starts = starts
 
 -- A text is so of no other tiles.
-pub t32-one-series : (t : List ℕ) (l m : List Tile) → Told t l → Told t m → l ≡ m
+pub t32-one-series : (t : List ℕ) (l m : List Tile) → StartsWith t l → StartsWith t m → l ≡ m
 t32-one-series = one-series
 
 -- What reading a text leaves is the tally of just those tiles.
-pub t32-tallied-series : (t : List ℕ) (l : List Tile) → Told t l → tallied t ≡ series none l
+pub t32-tallied-series : (t : List ℕ) (l : List Tile) → StartsWith t l → tallied t ≡ series none l
 t32-tallied-series = tallied-series
 
 -- It holds the figures of just those tiles.
-pub t32-tallied-figures : (t : List ℕ) (l : List Tile) → Told t l → tallied t ≡ figures l
+pub t32-tallied-figures : (t : List ℕ) (l : List Tile) → StartsWith t l → tallied t ≡ figures l
 t32-tallied-figures = tallied-figures
 
 -- A text may be read in pieces, cut anywhere.

@@ -2,21 +2,16 @@
 use mathlib.Core.Path.{_≡_}
 use Prim.Native.Nat.{ℕ}
 use lib.Ieee.{Float}
-use Rattle.grid.specs.Loop.{upto}
 use Rattle.grid.specs.Real.{Vec}
 use Rattle.leaves.specs.Finite.{First}
-use Rattle.answers.specs.Answers.{done}
 use Rattle.answers.specs.declared.Answer.{Answer}
 use Rattle.gram_schmidt.specs.Gram.{columnOf, lessColumnsTwice, norm}
-use Rattle.qr_q.specs.QrQ.{columnStep}
+use Rattle.qr_q.specs.QrQ.{columns}
 
--- q as it stands before column j, and the norm of that column
-abbrev pub before : ℕ → ℕ → Vec → ℕ → Answer × Vec
-before m k a j = upto (columnStep m k) 0 j (done 0, a)
-
+-- the norm of column j, after those before it
 abbrev pub normAt : ℕ → ℕ → Vec → ℕ → Float
 normAt m k a j =
-    let q = before m k a j .1 in
+    let q = columns m k a j .1 in
     norm m (lessColumnsTwice m k j q (columnOf m k q j))
 
 -- the norm of column `index` is the first that is not finite, and of the answer's class; the place is the column too

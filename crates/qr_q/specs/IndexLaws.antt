@@ -25,9 +25,9 @@ use Rattle.answers.specs.ChecksLaws.{lengths-index}
 use Rattle.answers.specs.ChecksLaws.{lengths-few}
 use Rattle.gram_schmidt.specs.Gram.{columnOf, lessColumnsTwice, norm}
 use Rattle.gram_schmidt.specs.Unit.{normalised, putColumn, finished}
-use Rattle.qr_q.specs.QrQ.{column, columnStep, columns, checks, qrQ}
-use Rattle.qr_q.specs.Result.{class-some}
-use Rattle.qr_q.specs.Index.{before, normAt, Points}
+use Rattle.qr_q.specs.QrQ.{column, columns, checks, qrQ}
+use Rattle.qr_q.specs.Result.{columnStep, class-some}
+use Rattle.qr_q.specs.Index.{normAt, Points}
 
 -- ---- after j columns: every norm was finite, or the first that was not gave the answer
 
@@ -39,7 +39,7 @@ module _ (m k : ℕ) (a : Vec) where
   longer : (j i c : ℕ) → First (normAt m k a) j i c → First (normAt m k a) (suc j) i c
   longer j i c f = record { within = omega (arith, f .within); seen = f .seen; class = f .class; before = f .before }
 
-  one-more : (j : ℕ) → Stood m k a j (before m k a j .0) → Stood m k a (suc j) (columnStep m k j (before m k a j) .0)
+  one-more : (j : ℕ) → Stood m k a j (columns m k a j .0) → Stood m k a (suc j) (columnStep m k j (columns m k a j) .0)
   unfolding column finished
   one-more j (stops i c e f) = rw (e, ne-eqb c 0 some) (stops i c refl (longer j i c f))
     where
@@ -48,7 +48,7 @@ module _ (m k : ℕ) (a : Vec) where
   one-more j (goes e f) = rw e (go (isFinite (normAt m k a j)) refl)
     where
       q : Vec
-      q = before m k a j .1
+      q = columns m k a j .1
 
       c : Vec
       c = lessColumnsTwice m k j q (columnOf m k q j)
@@ -61,16 +61,16 @@ module _ (m k : ℕ) (a : Vec) where
       ])
       go false h = stops j (classOf (norm m c)) refl (record { within = omega arith; seen = h; class = refl; before = f })
 
-  stood : (j : ℕ) → Stood m k a j (before m k a j .0)
+  stood : (j : ℕ) → Stood m k a j (columns m k a j .0)
+  unfolding columns
   stood zero = goes (ap (λ (s : Answer × Vec). s .0) (upto-none (columnStep m k) 0 (done 0, a))) (λ i l. absurd (omega arith))
   stood (suc j) =
       subst (λ (s : Answer × Vec). Stood m k a (suc j) (s .0))
       (sym (upto-more (columnStep m k) 0 j (done 0, a) (omega arith)) ∙ ap (λ (t : ℕ). upto (columnStep m k) 0 t (done 0, a)) (add-one j))
       (one-more j (stood j))
 
-  columns-indexed : Indexed (Points m k a) (columns m k a .0)
-  unfolding columns
-  columns-indexed = go (before m k a k .0) (stood k)
+  columns-indexed : Indexed (Points m k a) (columns m k a k .0)
+  columns-indexed = go (columns m k a k .0) (stood k)
     where
       go : (x : Answer) → Stood m k a k x → Indexed (Points m k a) x
       go x (goes e f) = rw e (below (Points m k a) _ (omega arith) refl)
@@ -85,7 +85,7 @@ module _ (m k : ℕ) (a : Vec) where
       by-check (Points m k a) (λ (s : Answer × Vec). s .0) (checks m k (length a) (length x)) _ _ refl
       (omega (arith, refuse-few (ltb 256 m || ltb 256 k) 1 0 (lengths (length a) (m * k) (length x) (m * k) 0 0) (omega arith) (lengths-few (length a) (m * k) (length x) (m * k) 0 0)))
       (refuse-index (ltb 256 m || ltb 256 k) 1 0 (lengths (length a) (m * k) (length x) (m * k) 0 0) (lengths-index (length a) (m * k) (length x) (m * k) 0 0))
-      (unless-indexed (Points m k a) (firstBad a) x (columns m k a) columns-indexed)
+      (unless-indexed (Points m k a) (firstBad a) x (columns m k a k) columns-indexed)
 
   pub qr-q-index-points : (x : Vec) → AtMark (qrQ m k a x .0) → Points m k a (qrQ m k a x .0)
   qr-q-index-points x = indexed x .points

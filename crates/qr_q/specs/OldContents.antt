@@ -21,7 +21,7 @@ qr-checks-few m k a x = refuse-few (ltb 256 m || ltb 256 k) 1 0 _ (omega arith) 
 pub qr-q-old-contents : (m k : ℕ) (a x y : Vec) → length x ≡ length y → (Early (qrQ m k a x .0) → ⊥) → qrQ m k a x ≡ qrQ m k a y
 unfolding qrQ
 qr-q-old-contents m k a x y l h =
-    old (Answer × Vec) (λ x. x .0) (checks m k (length a) (length x)) _ (unlessBad (firstBad a) y (columns m k a)) _ (checks m k (length a) (length x), y)
+    old (Answer × Vec) (λ x. x .0) (checks m k (length a) (length x)) _ (unlessBad (firstBad a) y (columns m k a k)) _ (checks m k (length a) (length x), y)
     (qr-checks-few m k (length a) (length x))
     (λ t. same-bad (firstBad a) x y _ _ l refl) refl refl h
-    ∙ ap (λ (j : ℕ). cond (passed (checks m k (length a) j)) (unlessBad (firstBad a) y (columns m k a)) (checks m k (length a) j, y)) l
+    ∙ ap (λ (j : ℕ). cond (passed (checks m k (length a) j)) (unlessBad (firstBad a) y (columns m k a k)) (checks m k (length a) j, y)) l

@@ -20,26 +20,18 @@ column m k j q =
     let c = lessColumnsTwice m k j q (columnOf m k q j) in
     finished m k j (norm m c) c q
 
--- nothing more is done after a refusal
-abbrev pub columnStep : ℕ → ℕ → ℕ → Answer × Vec → Answer × Vec
-columnStep m k j s = cond (passed (s .0)) (column m k j (s .1)) s
-
--- every column: j = 0 .. k - 1
-unfoldable pub columns : ℕ → ℕ → Vec → Answer × Vec
-columns m k a = upto (columnStep m k) 0 k (done 0, a)
+-- the first j columns in turn; nothing more is done after a refusal
+unfoldable pub columns : ℕ → ℕ → Vec → ℕ → Answer × Vec
+columns m k a j = upto (λ i s. cond (passed (s .0)) (column m k i (s .1)) s) 0 j (done 0, a)
 
 -- ---- the whole
 
 -- the checks, on lengths
 unfoldable pub checks : ℕ → ℕ → ℕ → ℕ → Answer
-checks m k a x =
-    cond (ltb 256 m || ltb 256 k) (refused 1 0)
-    (lengths a (m * k) x (m * k) 0 0)
+checks m k a x = cond (ltb 256 m || ltb 256 k) (refused 1 0) (lengths a (m * k) x (m * k) 0 0)
 
 -- 1 and 6 leave the answer x as it was; refusal 7 looks at the matrix a
 unfoldable pub qrQ : ℕ → ℕ → Vec → Vec → Answer × Vec
 qrQ m k a x =
     let check = checks m k (length a) (length x) in
-    cond (passed check)
-    (unlessBad (firstBad a) x (columns m k a))
-    (check, x)
+    cond (passed check) (unlessBad (firstBad a) x (columns m k a k)) (check, x)

@@ -12,10 +12,11 @@ use lib.ListN.{length, set, length-set, length-replicate, getD-replicate}
 use lib.Seq.{getD-set-same, getD-set-other}
 use Rattle.grid.specs.Loop.{upto}
 use Rattle.grid.specs.LoopLaws.{upto-more, upto-keeps}
-use Rattle.grid.specs.Real.{Vec, at, zero64, epsilon, zeros, _⊕_, _⊗_, _⊘_}
+use Rattle.grid.specs.Real.{Vec, at, zero64, epsilon, zeros, _⊕_, _⊗_, _⊘_, _⊖_}
 use Rattle.grid.specs.CellLaws.{upto-long}
 use Rattle.grid.specs.Table.{table}
 use Rattle.grid.specs.TableLaws.{length-table, at-table, each}
+use Rattle.grid.specs.Cell.{putEntry}
 use Rattle.leaves.specs.Leaf.{isFinite}
 use Rattle.leaves.specs.Scan.{classOf, firstBad}
 use Rattle.leaves.specs.ScanLaws.{firstBad-none, class-cases}
@@ -25,9 +26,9 @@ use Rattle.leaves.specs.declared.Bad.the-variants.{At, Nowhere}
 use Rattle.answers.specs.Answers.{answered, done, passed, emptied, unlessBad}
 use Rattle.answers.specs.OutcomeLaws.{Good, refuses, check-good}
 use Rattle.answers.specs.declared.Answer.{Answer}
-use Rattle.gram_schmidt.specs.Gram.{columnOf, dotStep, dot, lessStep, lessened, lessColumn, lessColumns, lessColumnsTwice, norm}
-use Rattle.gram_schmidt.specs.Unit.{overStep, over, normalised, putStep, putColumn, finished}
-use Rattle.qr_q.specs.QrQ.{column, columnStep, columns, checks, qrQ}
+use Rattle.gram_schmidt.specs.Gram.{columnOf, dot, lessened, lessColumns, lessColumnsTwice, norm}
+use Rattle.gram_schmidt.specs.Unit.{over, normalised, putColumn, finished}
+use Rattle.qr_q.specs.QrQ.{column, columns, checks, qrQ}
 use Rattle.qr_q.specs.Quotient.{add-finite, root-finite, quotient}
 
 -- ---- lists
@@ -49,12 +50,15 @@ zeros-finite n k l = ap isFinite (getD-replicate n k zero64 nan (omega (arith, l
 
 -- ---- a finite sum of squares
 
-squares : (c : Vec) (m : ℕ) → isFinite (upto (dotStep c c) 0 m zero64) ≡ true → (row : ℕ) → row < m → isFinite (at c row ⊗ at c row) ≡ true
+abbrev squareStep : Vec → ℕ → Float → Float
+squareStep c row acc = acc ⊕ at c row ⊗ at c row
+
+squares : (c : Vec) (m : ℕ) → isFinite (upto (squareStep c) 0 m zero64) ≡ true → (row : ℕ) → row < m → isFinite (at c row ⊗ at c row) ≡ true
 squares c zero h row l = absurd (omega arith)
 squares c (suc m) h row l =
-    let s : isFinite (upto (dotStep c c) 0 m zero64 ⊕ at c m ⊗ at c m) ≡ true =
-    ap isFinite (sym (upto-more (dotStep c c) 0 m zero64 (omega arith)) ∙ ap (λ (k : ℕ). upto (dotStep c c) 0 k zero64) (add-one m)) ∙ h in
-    let t = add-finite (upto (dotStep c c) 0 m zero64) (at c m ⊗ at c m) s in
+    let s : isFinite (upto (squareStep c) 0 m zero64 ⊕ at c m ⊗ at c m) ≡ true =
+    ap isFinite (sym (upto-more (squareStep c) 0 m zero64 (omega arith)) ∙ ap (λ (k : ℕ). upto (squareStep c) 0 k zero64) (add-one m)) ∙ h in
+    let t = add-finite (upto (squareStep c) 0 m zero64) (at c m ⊗ at c m) s in
     elim (ℕ-discrete row m) [
       | yes e ↦ subst (λ (k : ℕ). isFinite (at c k ⊗ at c k) ≡ true) (sym e) (t .1)
       | no d ↦ squares c m (t .0) row (omega arith)
@@ -62,7 +66,7 @@ squares c (suc m) h row l =
 
 norm-squares : (m : ℕ) (c : Vec) → isFinite (norm m c) ≡ true → (row : ℕ) → row < m → isFinite (at c row ⊗ at c row) ≡ true
 unfolding norm dot
-norm-squares m c h = squares c m (root-finite (upto (dotStep c c) 0 m zero64) h)
+norm-squares m c h = squares c m (root-finite (upto (squareStep c) 0 m zero64) h)
 
 -- ---- a column, normalised
 
@@ -87,29 +91,29 @@ normalised-long : (m : ℕ) (by : Float) (c : Vec) → length (normalised m by c
 unfolding normalised over
 normalised-long m by c = go (lt epsilon by)
   where
-    go : (b : Bool) → length (cond b (upto (overStep by) 0 m c) (zeros (length c))) ≡ length c
-    go true = upto-long (λ c. c) (overStep by) 0 m c (λ j u. simp length-set)
+    go : (b : Bool) → length (cond b (upto (λ row c. set c row (at c row ⊘ by)) 0 m c) (zeros (length c))) ≡ length c
+    go true = upto-long (λ c. c) (λ row c. set c row (at c row ⊘ by)) 0 m c (λ j u. simp length-set)
     go false = length-replicate (length c) zero64
 
 lessened-long : (m : ℕ) (proj : Float) (b c : Vec) → length (lessened m proj b c) ≡ length c
 unfolding lessened
-lessened-long m proj b c = upto-long (λ c. c) (lessStep proj b) 0 m c (λ row w. simp length-set)
+lessened-long m proj b c = upto-long (λ c. c) (λ row c. set c row (at c row ⊖ proj ⊗ at b row)) 0 m c (λ row w. simp length-set)
 
 passes-long : (m k j : ℕ) (q c : Vec) → length (lessColumnsTwice m k j q c) ≡ length c
 unfolding lessColumnsTwice lessColumns
 passes-long m k j q c =
-    upto-long (λ c. c) (λ p. lessColumns m k j q) 0 2 c (λ p u. upto-long (λ c. c) (lessColumn m k q) 0 j u (λ i v. lessened-long m _ _ v))
+    upto-long (λ c. c) (λ p. lessColumns m k j q) 0 2 c (λ p u. upto-long (λ c. c) (λ i c. lessened m (dot m (columnOf m k q i) c) (columnOf m k q i) c) 0 j u (λ i v. lessened-long m _ _ v))
 
 -- ---- into the array
 
 put-finite : (m k j : ℕ) (c q : Vec) → length c ≡ m → Finite c → Finite q → Finite (putColumn m k j c q)
 unfolding putColumn
 put-finite m k j c q l f g =
-    upto-keeps (λ s t. Finite s) (putStep k j c) (putStep k j c) 0 m q q (λ row s t a b h. set-finite s (row * k + j) (at c row) h (f row (omega arith))) g
+    upto-keeps (λ s t. Finite s) (λ row q. putEntry q k row j (at c row)) (λ row q. putEntry q k row j (at c row)) 0 m q q (λ row s t a b h. set-finite s (row * k + j) (at c row) h (f row (omega arith))) g
 
 put-long : (m k j : ℕ) (c q : Vec) → length (putColumn m k j c q) ≡ length q
 unfolding putColumn
-put-long m k j c q = upto-long (λ c. c) (putStep k j c) 0 m q (λ row u. simp length-set)
+put-long m k j c q = upto-long (λ c. c) (λ row q. putEntry q k row j (at c row)) 0 m q (λ row u. simp length-set)
 
 -- a refusal by a class is one
 pub class-some : (x : Float) → classOf x ≡ 0 → ⊥
@@ -132,7 +136,10 @@ column-good n m k j q f l = go (isFinite (norm m c)) refl
     }
     go false e = refuses n _ _ (class-some (norm m c))
 
-columns-good : (m k : ℕ) (a : Vec) → Finite a → Good (length a) (columns m k a)
+abbrev pub columnStep : ℕ → ℕ → ℕ → Answer × Vec → Answer × Vec
+columnStep m k j s = cond (passed (s .0)) (column m k j (s .1)) s
+
+columns-good : (m k : ℕ) (a : Vec) → Finite a → Good (length a) (columns m k a k)
 unfolding columns
 columns-good m k a f =
     upto-keeps (λ s t. Good (length a) s) (columnStep m k) (columnStep m k) 0 k (done 0, a) (done 0, a) (λ j s t p q g. turn j s g) (record { finite = λ z. f; long = λ z. refl })
@@ -148,7 +155,7 @@ qr-good : (m k : ℕ) (a x : Vec) → Good (length a) (qrQ m k a x)
 unfolding qrQ
 qr-good m k a x = check-good (length a) (checks m k (length a) (length x)) x _ (scanned (firstBad a) refl)
   where
-    scanned : (b : Bad) → firstBad a ≡ b → Good (length a) (unlessBad b x (columns m k a))
+    scanned : (b : Bad) → firstBad a ≡ b → Good (length a) (unlessBad b x (columns m k a k))
     scanned (At i c) e = refuses (length a) _ _ (λ z. omega arith)
     scanned Nowhere e = columns-good m k a (firstBad-none a e)
 

@@ -30,7 +30,7 @@ fn column(m: usize, k: usize, j: usize, b: &mut [f64], c: &mut [f64], q: &mut [f
 
 fn columns(m: usize, k: usize, b: &mut [f64], c: &mut [f64], q: &mut [f64]) -> Answer
     requires { ⌜ (length (now q) ≡ m * k) × (length (now b) ≡ m) × (length (now c) ≡ m) ⌝ }
-    ensures { λ r. ⌜ (r, now (q .exit)) ≡ columns m k (now (q .entry)) ⌝ }
+    ensures { λ r. ⌜ (r, now (q .exit)) ≡ columns m k (now (q .entry)) k ⌝ }
 {
     let mut r = done(0);
     for j in 0..k {
@@ -57,7 +57,7 @@ fn checks(m: usize, k: usize, a: usize, x: usize) -> Answer
 // The columns of a, worked on in x with two columns of scratch.
 fn run(m: usize, k: usize, a: &[f64], x: &mut [f64]) -> Answer
     requires { ⌜ (m ≤ 256) × (length (now a) ≡ m * k) × (length (now x) ≡ m * k) ⌝ }
-    ensures { λ r. ⌜ (r, now (x .exit)) ≡ columns m k (now (a .entry)) ⌝ }
+    ensures { λ r. ⌜ (r, now (x .exit)) ≡ columns m k (now (a .entry)) k ⌝ }
 {
     let mut b = [0.0f64; LARGEST];
     let mut c = [0.0f64; LARGEST];
@@ -67,7 +67,7 @@ fn run(m: usize, k: usize, a: &[f64], x: &mut [f64]) -> Answer
 
 fn scanned(m: usize, k: usize, a: &[f64], x: &mut [f64]) -> Answer
     requires { ⌜ (m ≤ 256) × (length (now a) ≡ m * k) × (length (now x) ≡ m * k) ⌝ }
-    ensures { λ r. ⌜ (r, now (x .exit)) ≡ unlessBad (firstBad (now (a .entry))) (now (x .entry)) (columns m k (now (a .entry))) ⌝ }
+    ensures { λ r. ⌜ (r, now (x .exit)) ≡ unlessBad (firstBad (now (a .entry))) (now (x .entry)) (columns m k (now (a .entry)) k) ⌝ }
 {
     let bad = refusal7(first_bad(a));
     if bad.answer != 0 {

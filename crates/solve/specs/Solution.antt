@@ -10,13 +10,7 @@ use Rattle.grid.specs.Cell.{entry}
 use Rattle.grid.specs.Table.{table, part}
 use Rattle.answers.specs.Answers.{least}
 
--- ---- the parts of a decomposition
-
--- the r values
-abbrev pub valuesOf : ℕ → Vec → Vec
-valuesOf r d = take r d
-
--- U, m by r, behind the values
+-- U, m by r, behind the r values
 abbrev pub uOf : ℕ → ℕ → Vec → Vec
 uOf m r d = part r (r + m * r) d
 
@@ -24,23 +18,17 @@ uOf m r d = part r (r + m * r) d
 abbrev pub vtOf : ℕ → ℕ → Vec → Vec
 vtOf m r d = part (r + m * r) (length d) d
 
--- ---- solve: x = V * c, c = sigma^+ * U^T * b
-
--- column j of a, which has that many columns, by v
-abbrev pub columnStep : ℕ → Vec → Vec → ℕ → ℕ → Float → Float
-columnStep cols a v j i acc = acc ⊕ entry a cols i j ⊗ at v i
-
--- column j of a by v, summed from row 0 on, starting at +0.0
+-- column j of a, which has that many columns, by v: summed from row 0 on, starting at +0.0
 unfoldable pub columnSum : ℕ → ℕ → Vec → Vec → ℕ → Float
-columnSum rows cols a v j = upto (columnStep cols a v j) 0 rows zero64
+columnSum rows cols a v j = upto (λ i acc. acc ⊕ entry a cols i j ⊗ at v i) 0 rows zero64
 
 -- c[k] for the value sv: one that is not above the tolerance counts as zero
 unfoldable pub coefficient : Float → Float → Float → Float
 coefficient tol sv acc = cond (lt tol sv) (acc ⊘ sv) zero64
 
--- c[k] is column k of U by b, over value k where that counts, else 0; x[j] is column j of V^T by c
+-- x = V * c, where c = sigma^+ * U^T * b
 unfoldable pub solution : ℕ → ℕ → Float → Vec → Vec → Vec
 solution m n tol d b =
     let r = least m n in
-    let c = table (λ k. coefficient tol (at (valuesOf r d) k) (columnSum m r (uOf m r d) b k)) r in
+    let c = table (λ k. coefficient tol (at (take r d) k) (columnSum m r (uOf m r d) b k)) r in
     table (columnSum r n (vtOf m r d) c) n

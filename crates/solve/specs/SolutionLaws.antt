@@ -1,13 +1,19 @@
 -- How the code works the sums out, what its functions ask of a decomposition, and the lengths of its parts; no promise speaks of these. Laws only.
-use mathlib.Core.Path.{_≡_}
+use mathlib.Core.Path.{_≡_, ap}
+use mathlib.Core.Bool.{false, cond}
 use Prim.Native.Nat.{ℕ, _+_, _*_, _≤_}
-use lib.Ieee.{Float}
+use lib.Ieee.{Float, lt}
 use lib.ListN.{set}
-use Rattle.grid.specs.Real.{Vec, at, _⊕_, _⊗_}
+use Rattle.grid.specs.Real.{Vec, at, zero64, _⊕_, _⊗_, _⊘_}
 use Rattle.grid.specs.Cell.{entry}
 use Rattle.answers.specs.Answers.{least}
 use Rattle.answers.specs.AnswersLaws.{least-le, product-le}
 use Rattle.solve.specs.Solution.{coefficient}
+
+-- the Rust sums only where a value is above the tolerance: elsewhere the sum has no part in c[k], which is the +0.0 that it starts as
+pub sum-left-out : (tol sv acc : Float) → lt tol sv ≡ false → coefficient tol sv acc ≡ zero64
+unfolding coefficient
+sum-left-out tol sv acc h = ap (λ b. cond b (acc ⊘ sv) zero64) h
 
 -- the sums are worked out side by side: row i by v[i] is added to all of them
 abbrev pub addStep : ℕ → Vec → ℕ → Float → ℕ → Vec → Vec

@@ -25,16 +25,11 @@ parts m n u vt later =
 
 -- 1, 3 and 4, then 5, then 11, then 6, for a decomposition, a right side and an answer of so many numbers
 unfoldable pub solveChecks : ℕ → ℕ → ℕ → ℕ → Float → ℕ → ℕ → ℕ → Answer
-solveChecks m n u vt tol d b x =
-    parts m n u vt
-    (cond (not (eqb b m)) (refused 5 0)
-    (fitting tol d (decompositionLength m n u vt) x n))
+solveChecks m n u vt tol d b x = parts m n u vt (cond (not (eqb b m)) (refused 5 0) (fitting tol d (decompositionLength m n u vt) x n))
 
 -- 1, 3 and 4, then 11, then 6, for a decomposition and an answer of so many numbers
 unfoldable pub inverseChecks : ℕ → ℕ → ℕ → ℕ → Float → ℕ → ℕ → Answer
-inverseChecks m n u vt tol d x =
-    parts m n u vt
-    (fitting tol d (decompositionLength m n u vt) x (n * m))
+inverseChecks m n u vt tol d x = parts m n u vt (fitting tol d (decompositionLength m n u vt) x (n * m))
 
 -- ---- the outcomes: the four numbers, and the answer array x afterwards
 
@@ -46,14 +41,10 @@ looked x = cond (isBad (firstBad x)) (emptied (marked 2 0 (firstBad x)) x) (done
 unfoldable pub solve : ℕ → ℕ → ℕ → ℕ → Float → Vec → Vec → Vec → Answer × Vec
 solve m n u vt tol d b x =
     let check = solveChecks m n u vt tol (length d) (length b) (length x) in
-    cond (passed check)
-    (unlessBad (firstBad (d ++ b)) x (looked (solution m n tol d b)))
-    (check, x)
+    cond (passed check) (unlessBad (firstBad (d ++ b)) x (looked (solution m n tol d b))) (check, x)
 
 -- refusal 7 looks at the decomposition d
 unfoldable pub pseudoInverse : ℕ → ℕ → ℕ → ℕ → Float → Vec → Vec → Answer × Vec
 pseudoInverse m n u vt tol d x =
     let check = inverseChecks m n u vt tol (length d) (length x) in
-    cond (passed check)
-    (unlessBad (firstBad d) x (looked (inverted m n tol d)))
-    (check, x)
+    cond (passed check) (unlessBad (firstBad d) x (looked (inverted m n tol d))) (check, x)

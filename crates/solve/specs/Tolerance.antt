@@ -4,7 +4,7 @@ use mathlib.Core.Bool.{true, cond}
 use mathlib.Core.List.{_++_}
 use Prim.Native.Nat.{ℕ, _*_}
 use lib.Ieee.{Float, neg}
-use lib.ListN.{length}
+use lib.ListN.{length, take}
 use Rattle.grid.specs.Loop.{upto}
 use Rattle.grid.specs.Real.{Vec, zero64, one64, at, _⊕_, _⊗_, _⊘_}
 use Rattle.grid.specs.Cell.{entry}
@@ -13,7 +13,7 @@ use Rattle.leaves.specs.Scan.{firstBad}
 use Rattle.answers.specs.Answers.{passed, least, decompositionLength, unlessBad}
 use Rattle.answers.specs.Checks.{toleranceGood, fitting}
 use Rattle.answers.specs.ToleranceLaws.{fitting-lengths, zero-good, minus-zero-good, above-minus-zero}
-use Rattle.solve.specs.Solution.{valuesOf, uOf, vtOf, columnSum, coefficient, solution}
+use Rattle.solve.specs.Solution.{uOf, vtOf, columnSum, coefficient, solution}
 use Rattle.solve.specs.PseudoInverse.{inverse, pinvSum, inverted}
 use Rattle.solve.specs.Solve.{solveChecks, inverseChecks, looked, solve, pseudoInverse}
 use Rattle.solve.specs.WithoutToleranceCheck.{solveBefore, pseudoInverseBefore}
@@ -28,7 +28,7 @@ solution-zero : (m n : ℕ) (d b : Vec) → solution m n (neg zero64) d b ≡ so
 unfolding solution
 solution-zero m n d b i =
     let r = least m n in
-    table (columnSum r n (vtOf m r d) (table (λ k. coefficient-zero (at (valuesOf r d) k) (columnSum m r (uOf m r d) b k) i) r)) n
+    table (columnSum r n (vtOf m r d) (table (λ k. coefficient-zero (at (take r d) k) (columnSum m r (uOf m r d) b k) i) r)) n
 
 inverse-zero : (sv : Float) → inverse (neg zero64) sv ≡ inverse zero64 sv
 unfolding inverse
@@ -38,7 +38,7 @@ inverted-zero : (m n : ℕ) (d : Vec) → inverted m n (neg zero64) d ≡ invert
 unfolding inverted pinvSum
 inverted-zero m n d i =
     let r = least m n in
-    rows (λ j. table (λ k. upto (λ l acc. acc ⊕ entry (vtOf m r d) n l j ⊗ inverse-zero (at (valuesOf r d) l) i ⊗ entry (uOf m r d) r k l) 0 r zero64) m) n
+    rows (λ j. table (λ k. upto (λ l acc. acc ⊕ entry (vtOf m r d) n l j ⊗ inverse-zero (at (take r d) l) i ⊗ entry (uOf m r d) r k l) 0 r zero64) m) n
 
 good-zero : toleranceGood (neg zero64) ≡ toleranceGood zero64
 good-zero = minus-zero-good ∙ sym zero-good

@@ -4,7 +4,7 @@ ghost use Prim.Native.Nat.{_*_, _<_};
 ghost use lib.ListN.{length};
 ghost use Rattle.grid.specs.Table.{table, rows};
 ghost use Rattle.answers.specs.Answers.{least};
-ghost use Rattle.solve.specs.PseudoInverse.{inverse, pinvRow, inverted};
+ghost use Rattle.solve.specs.PseudoInverse.{inverse, pinvSum, inverted};
 ghost use Rattle.solve.specs.PseudoInverseLaws.{product, dot};
 ghost use Rattle.solve.specs.SolutionLaws.{Sized};
 use grid::at1;
@@ -63,7 +63,7 @@ fn pinv_row(
     x: &mut [f64],
 )
     requires { ⌜ (j < n) × (length (now s) ≡ r) × (length (now u) ≡ m * r) × (length (now vt) ≡ r * n) × (length (now w) ≡ r) × (length (now x) ≡ m) ⌝ }
-    ensures { λ _. ⌜ now (x .exit) ≡ pinvRow m r n tolerance (now (s .entry)) (now (u .entry)) (now (vt .entry)) j ⌝ }
+    ensures { λ _. ⌜ now (x .exit) ≡ table (pinvSum r n tolerance (now (s .entry)) (now (u .entry)) (now (vt .entry)) j) m ⌝ }
 {
     products(r, n, tolerance, s, vt, j, w);
     dots(m, r, w, u, x);
@@ -81,7 +81,7 @@ fn pinv_rows(
     x: &mut [f64],
 )
     requires { ⌜ (length (now s) ≡ r) × (length (now u) ≡ m * r) × (length (now vt) ≡ r * n) × (length (now w) ≡ r) × (length (now x) ≡ n * m) ⌝ }
-    ensures { λ _. ⌜ now (x .exit) ≡ rows (pinvRow m r n tolerance (now (s .entry)) (now (u .entry)) (now (vt .entry))) n ⌝ }
+    ensures { λ _. ⌜ now (x .exit) ≡ rows (λ j. table (pinvSum r n tolerance (now (s .entry)) (now (u .entry)) (now (vt .entry)) j) m) n ⌝ }
 {
     for j in 0..n {
         let a = j * m;

@@ -6,17 +6,17 @@ use Prim.Native.Nat.{ℕ, zero, suc, _+_, _-_, _≤_, _<_}
 use native.Mathlib.Omega.{arith}
 use borrow.Author.Tests.{leb-true, eqb-true, eqb-false, le-leb, lt-leb, eq-eqb, ne-eqb}
 use lib.Dec.{leb, eqb}
-use lib.ListN.{length}
+use lib.ListN.{length, getD}
 use Rattle.grid.specs.LoopLaws.{both}
 use Rattle.store_definition.specs.Store.{roomOf}
-use Rattle.store_definition.specs.Owners.{quotaOf, startFor, leftOver, listed2, laid, barred, soundFor, soundBoth}
+use Rattle.store_definition.specs.Owners.{quotaOf, startFor, listed2, laid, barred, soundFor, soundBoth}
 
 pub record Laid (list tiles bytes : List ℕ) : Type 0 where
   pub lists : length list ≡ 70
   pub tiled : length tiles ≡ 64
   pub small : roomOf list ≤ 65536
   pub whole : length bytes ≡ roomOf list
-  pub adding : quotaOf 0 list + quotaOf 1 list + leftOver list ≡ roomOf list
+  pub adding : quotaOf 0 list + quotaOf 1 list + getD list 69 0 ≡ roomOf list
 
 module _ (list tiles : List ℕ) (e : listed2 list tiles ≡ true) where
   pub listed2-lists : length list ≡ 70
@@ -29,7 +29,7 @@ module _ (list tiles bytes : List ℕ) where
   pub laid-facts : laid list tiles bytes ≡ true → Laid list tiles bytes
   unfolding laid
   laid-facts e =
-      let d = both _ (eqb (quotaOf 0 list + quotaOf 1 list + leftOver list) (roomOf list)) e in
+      let d = both _ (eqb (quotaOf 0 list + quotaOf 1 list + getD list 69 0) (roomOf list)) e in
       let b = both _ (eqb (length bytes) (roomOf list)) (d .0) in
       let a = both _ (leb (roomOf list) 65536) (b .0) in
       record {
@@ -37,7 +37,7 @@ module _ (list tiles bytes : List ℕ) where
         tiled = listed2-tiled list tiles (a .0);
         small = leb-true (roomOf list) 65536 (a .1);
         whole = eqb-true (length bytes) (roomOf list) (b .1);
-        adding = eqb-true (quotaOf 0 list + quotaOf 1 list + leftOver list) (roomOf list) (d .1);
+        adding = eqb-true (quotaOf 0 list + quotaOf 1 list + getD list 69 0) (roomOf list) (d .1);
       }
 
   pub facts-laid : Laid list tiles bytes → laid list tiles bytes ≡ true
@@ -48,7 +48,7 @@ module _ (list tiles bytes : List ℕ) where
         eq-eqb (length tiles) 64 (f .tiled),
         le-leb (roomOf list) 65536 (f .small),
         eq-eqb (length bytes) (roomOf list) (f .whole),
-      ) (eq-eqb (quotaOf 0 list + quotaOf 1 list + leftOver list) (roomOf list) (f .adding))
+      ) (eq-eqb (quotaOf 0 list + quotaOf 1 list + getD list 69 0) (roomOf list) (f .adding))
 
   pub both-laid : soundBoth list tiles bytes ≡ true → laid list tiles bytes ≡ true
   unfolding soundBoth

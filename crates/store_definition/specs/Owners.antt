@@ -13,7 +13,7 @@ use Rattle.answers.specs.declared.Answer.{Answer}
 use Rattle.answers.specs.Answers.{done, refused}
 use Rattle.store_definition.specs.Store.{roomOf, sound, Outcome, kept, putOf, lengthHeld, fetchOf, dropOf}
 
--- the n elements from a on, and a list with others in their place
+-- the n elements from a on
 abbrev pub part : List ℕ → ℕ → ℕ → List ℕ
 part l a n = take n (drop a l)
 
@@ -21,7 +21,7 @@ part l a n = take n (drop a l)
 abbrev pub patched : List ℕ → ℕ → ℕ → List ℕ → List ℕ
 patched l a n p = take a l ++ (p ++ drop n (drop a l))
 
--- an owner's quota, and where its bytes start
+-- an owner's quota
 abbrev pub quotaOf : ℕ → List ℕ → ℕ
 quotaOf owner list = getD list (1 + owner * 34) 0
 
@@ -29,21 +29,17 @@ quotaOf owner list = getD list (1 + owner * 34) 0
 abbrev pub startFor : ℕ → List ℕ → ℕ
 startFor owner list = owner * quotaOf 0 list
 
--- what room and quotas leave over
-abbrev pub leftOver : List ℕ → ℕ
-leftOver list = getD list 69 0
-
 -- the arrays are of the lengths that a set-up takes
 abbrev pub listed2 : List ℕ → List ℕ → Bool
 listed2 list tiles = eqb (length list) 70 && eqb (length tiles) 64
 
--- the lengths, the room, the quotas and what they leave over are such as a set-up leaves; what else the owners' lists have in them is not looked at
+-- the lengths, the room, the quotas and what they leave over, number 69, are such as a set-up leaves; what else the owners' lists have in them is not looked at
 unfoldable pub laid : List ℕ → List ℕ → List ℕ → Bool
 laid list tiles bytes =
     listed2 list tiles
     && leb (roomOf list) 65536
     && eqb (length bytes) (roomOf list)
-    && eqb (quotaOf 0 list + quotaOf 1 list + leftOver list) (roomOf list)
+    && eqb (quotaOf 0 list + quotaOf 1 list + getD list 69 0) (roomOf list)
 
 -- what is refused before an owner's part is looked at: 34, then 39; else 0
 unfoldable pub barred : ℕ → List ℕ → List ℕ → List ℕ → ℕ
@@ -77,40 +73,32 @@ module _ (owner : ℕ) (list tiles bytes : List ℕ) where
 
   -- an outcome of the owner's store, put back
   abbrev pub back : Outcome → Outcome
-  back (a, l, t, b) = (
-    a,
-    patched list (1 + owner * 34) 34 l,
-    patched tiles (owner * 32) 32 t,
-    patched bytes (startFor owner list) (quotaOf owner list) b,
-  )
+  back (a, l, t, b) =
+      (a, patched list (1 + owner * 34) 34 l, patched tiles (owner * 32) 32 t, patched bytes (startFor owner list) (quotaOf owner list) b)
 
   -- 34 or 39; else the put of the owner's store
   unfoldable pub putFor : ℕ → List ℕ → Outcome
   putFor t block =
-      cond (eqb (barred owner list tiles bytes) 0)
-      (back (putOf 32 ownList ownTiles ownBytes t block))
-      (kept list tiles bytes (barred owner list tiles bytes))
+      let no = barred owner list tiles bytes in
+      cond (eqb no 0) (back (putOf 32 ownList ownTiles ownBytes t block)) (kept list tiles bytes no)
 
   -- 34 or 39; else the length in the owner's store
   unfoldable pub lengthFor : ℕ → Answer
   lengthFor t =
-      cond (eqb (barred owner list tiles bytes) 0)
-      (lengthHeld 32 ownList ownTiles ownBytes t)
-      (refused (barred owner list tiles bytes) 0)
+      let no = barred owner list tiles bytes in
+      cond (eqb no 0) (lengthHeld 32 ownList ownTiles ownBytes t) (refused no 0)
 
   -- 34 or 39, out as it was; else the fetch from the owner's store
   unfoldable pub fetchFor : ℕ → List ℕ → Answer × List ℕ
   fetchFor t out =
-      cond (eqb (barred owner list tiles bytes) 0)
-      (fetchOf 32 ownList ownTiles ownBytes t out)
-      (refused (barred owner list tiles bytes) 0, out)
+      let no = barred owner list tiles bytes in
+      cond (eqb no 0) (fetchOf 32 ownList ownTiles ownBytes t out) (refused no 0, out)
 
   -- 34 or 39; else the drop of the owner's store
   unfoldable pub dropFor : ℕ → Outcome
   dropFor t =
-      cond (eqb (barred owner list tiles bytes) 0)
-      (back (dropOf 32 ownList ownTiles ownBytes t))
-      (kept list tiles bytes (barred owner list tiles bytes))
+      let no = barred owner list tiles bytes in
+      cond (eqb no 0) (back (dropOf 32 ownList ownTiles ownBytes t)) (kept list tiles bytes no)
 
 module _ (list tiles bytes : List ℕ) where
   -- the arrays are such as a set-up and calls leave: both owners' lists are looked at

@@ -16,7 +16,7 @@ use Rattle.store_definition.specs.Store.{roomOf, heldOf, listed, sound}
 use Rattle.store_definition.specs.Calls.{Call, Put, Length, Fetch, Drop, Event, Do, Seen, run, mapStep, Arrays, storeCall, storeReset, storeStep}
 use Rattle.store_definition.specs.Sequence.{list-is, set-up-is, emptied, emptied-sound, call-sound, as-a-map}
 use Rattle.store_definition.specs.KeptLaws.{Kept, call-keeps}
-use Rattle.store_definition.specs.Owners.{part, patched, quotaOf, startFor, leftOver, listed2, laid, barred, setUp2, soundFor, soundBoth, reset, putFor, lengthFor, fetchFor, dropFor}
+use Rattle.store_definition.specs.Owners.{part, patched, quotaOf, startFor, listed2, laid, barred, setUp2, soundFor, soundBoth, reset, putFor, lengthFor, fetchFor, dropFor}
 use Rattle.store_definition.specs.LaidLaws.{Laid, listed2-lists, listed2-tiled, laid-facts, facts-laid, both-laid, admitted, not-barred, bounded}
 use Rattle.store_definition.specs.OwnersEvents.{Event2, By, ResetBoth, ownArrays, callFor, resetBoth, twoStep, resets, ownEvents, ownSeen}
 use Rattle.store_definition.specs.PartLaws.{part-length, patched-part, part-patched, patched-length, part-apart, first-of, part-set, part-set-before, part-set-behind}
@@ -124,7 +124,7 @@ module _ (o : ℕ) (h : o ≤ 1) (w : Arrays) (f : LaidOut w) where
     room-same =
         sym (first-of (w′ .list) 0 0) ∙ ap roomOf (part-apart (w .list) (1 + o * 34) 34 in-list (s .list) s-lists 0 1 (inl (omega arith))) ∙ first-of (w .list) 0 0
 
-    left-same : leftOver (w′ .list) ≡ leftOver (w .list)
+    left-same : getD (w′ .list) 69 0 ≡ getD (w .list) 69 0
     left-same =
         sym (first-of (w′ .list) 69 0) ∙ ap roomOf (part-apart (w .list) (1 + o * 34) 34 in-list (s .list) s-lists 69 1 (inr (omega arith))) ∙ first-of (w .list) 69 0
 
@@ -444,7 +444,7 @@ module _ (list tiles bytes : List ℕ) (quota0 quota1 : ℕ) (small : length byt
   long5 : length list5 ≡ 70
   long5 = length-set (set (set (set (set list 0 (length bytes)) 1 quota0) 2 0) 35 quota1) 36 0 ∙ long4
 
-  at-left : leftOver list0 ≡ length bytes - quota0 - quota1
+  at-left : getD list0 69 0 ≡ length bytes - quota0 - quota1
   at-left = getD-set-same list5 69 (length bytes - quota0 - quota1) 0 (omega (arith, long5))
 
   pub laid0 : LaidOut (record { list = list0; tiles = tiles; bytes = bytes })

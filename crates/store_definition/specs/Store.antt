@@ -81,21 +81,15 @@ module _ (list tiles bytes : List ℕ) where
 
   -- a block behind the others
   abbrev pub added : ℕ → List ℕ → Outcome
-  added t block = (
-    done 0,
-    set (set list (2 + heldOf list) (length block)) 1 (heldOf list + 1),
-    set tiles (heldOf list) t,
-    paste bytes (startOf list (heldOf list)) block (length block),
-  )
+  added t block =
+      let k = heldOf list in
+      (done 0, set (set list (2 + k) (length block)) 1 (k + 1), set tiles k t, paste bytes (startOf list k) block (length block))
 
   -- the block in entry k gone, those behind it moved down
   abbrev pub removed : ℕ → Outcome
-  removed k = (
-    done 0,
-    set (closed list (2 + k) 1 (2 + heldOf list)) 1 (heldOf list - 1),
-    closed tiles k 1 (heldOf list),
-    closed bytes (startOf list k) (lengthAt list k) (startOf list (heldOf list)),
-  )
+  removed k =
+      let n = heldOf list in
+      (done 0, set (closed list (2 + k) 1 (2 + n)) 1 (n - 1), closed tiles k 1 n, closed bytes (startOf list k) (lengthAt list k) (startOf list n))
 
 module _ (entries : ℕ) (list tiles bytes : List ℕ) where
   -- the empty store, whatever the arrays had in them

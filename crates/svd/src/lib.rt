@@ -9,7 +9,8 @@ ghost use lib.ListN.{length};
 ghost use Rattle.answers.specs.Answers.{least};
 ghost use Rattle.svd_jacobi_svd_tall.specs.SweepLengths.{Sized};
 ghost use Rattle.svd_sort_svd_descending.specs.Result.{longest, workLength, sortedOut};
-ghost use Rattle.svd.specs.Svd.{source, columnLoaded, matrixLoaded, eyed, checks, ran, svd};
+ghost use Rattle.svd.specs.Svd.{source, checks, svd};
+ghost use Rattle.svd.specs.LoadedLaws.{columnLoaded, matrixLoaded, eyed, ranIn};
 ghost use Rattle.svd_sort_svd_descending.specs.ResultSizes.{Checked};
 use answers::Answer;
 use answers::checks::lengths;
@@ -110,14 +111,14 @@ fn hand_over(
     res: &mut [f64],
 )
     requires { ⌜ Checked m n «want_u» «want_vt» (now w) (now res) ⌝ }
-    ensures { λ _. ⌜ now (res .exit) ≡ cond (eqb answer 0) (sortedOut m n «want_u» «want_vt» (now (w .entry)) (now (res .entry))) (now (res .entry)) ⌝ }
+    ensures { λ _. ⌜ now (res .exit) ≡ cond (eqb answer 0) (sortedOut m n «want_u» «want_vt» (now (w .entry))) (now (res .entry)) ⌝ }
 {
     if answer == 0 {
         sorted_out(m, n, want_u, want_vt, w, res);
     }
 }
 
-// The run, over arrays that are all +0.0.
+// The run, over a work array that is all +0.0 before it.
 fn run(
     m: usize,
     n: usize,
@@ -129,7 +130,7 @@ fn run(
     res: &mut [f64],
 ) -> Answer
     requires { ⌜ (limit ≤ 60) × (length (now a) ≡ m * n) × Checked m n «want_u» «want_vt» (now w) (now res) ⌝ }
-    ensures { λ r. ⌜ (r, now (w .exit), now (res .exit)) ≡ ran m n «want_u» «want_vt» limit (now (a .entry)) (now (w .entry)) (now (res .entry)) ⌝ }
+    ensures { λ r. ⌜ (r, now (w .exit), now (res .exit)) ≡ ranIn m n «want_u» «want_vt» limit (now (a .entry)) (now (w .entry)) (now (res .entry)) ⌝ }
 {
     let rows = longest(m, n);
     let cols = least(m, n);

@@ -7,7 +7,7 @@ use lib.IntN.{ℤ}
 use lib.Ieee.{Float, binary64, ofBits, neg, add, sub, mul, div, lt, le, eq}
 use Rattle.grid.specs.Loop.{seek, first, every, times, upto, rounds}
 use Rattle.grid.specs.Real.{Vec, zeros, zero64, one64, two64}
-use Rattle.grid.specs.Table.{table}
+use Rattle.grid.specs.Table.{table, rows}
 use Rattle.root.specs.Root.{whole, rootOf, root}
 use Rattle.leaves.specs.Leaf.{magnitude, isFinite}
 use Rattle.leaves.specs.Scan.{classOf, scan, placeOf, byRows}
@@ -17,9 +17,9 @@ use Rattle.svd_jacobi_svd_tall.specs.Sweep.{gram, skipped, rotationOf, rotated,
 use Rattle.svd_jacobi_svd_tall.specs.Marks.{factorsBad, allBad}
 use Rattle.svd_jacobi_svd_tall.specs.SingularValues.{normSq, divided, normalStep, normalised}
 use Rattle.svd_jacobi_svd_tall.specs.JacobiSvdTall.{verdict, swept, sweeps, finished, jacobi}
-use Rattle.svd_sort_svd_descending.specs.Order.{rank, noted, order}
-use Rattle.svd_sort_svd_descending.specs.Result.{longest, workLength, columnOut, factorOut, sortedOut}
-use Rattle.svd.specs.Svd.{source, columnLoaded, matrixLoaded, eyed, loaded, checks, ran, svd}
+use Rattle.svd_sort_svd_descending.specs.Order.{rank, order}
+use Rattle.svd_sort_svd_descending.specs.Result.{longest, workLength, sortedOut}
+use Rattle.svd.specs.Svd.{source, loaded, checks, ran, svd}
 use Rattle.svd_theorems.specs.Outcome.{Outcome, begun}
 use Rattle.svd_gain_theorems.specs.Scale.{scale, isZero, fine}
 use Rattle.svd_gain_theorems.specs.Gained.{Gained}
@@ -27,11 +27,11 @@ use Rattle.svd_gain_theorems.specs.Test.{productTest, along, roundsTest,
 
 -- both factors wanted, the limit 60
 unfoldable pub tested : (Float → Bool) → Bool → ℕ → ℕ → Vec → Bool
-unfolding ofBits neg add sub mul div lt le eq seek first times upto rounds whole rootOf root magnitude isFinite table classOf scan placeOf byRows limitGood lengths least present decompositionLength gram skipped rotationOf rotated pairDone pairsOf sweep factorsBad verdict swept sweeps normSq divided normalStep normalised allBad finished jacobi rank noted order longest workLength source columnLoaded matrixLoaded eyed loaded columnOut factorOut sortedOut checks ran svd scale isZero fine productTest every along roundsTest gramTest skipTest rotationTest turnTest pairTest sweepTest columnTest runTest
+unfolding ofBits neg add sub mul div lt le eq seek first times upto rounds whole rootOf root magnitude isFinite table rows classOf scan placeOf byRows limitGood lengths least present decompositionLength gram skipped rotationOf rotated pairDone pairsOf sweep factorsBad verdict swept sweeps normSq divided normalStep normalised allBad finished jacobi rank order longest workLength source loaded sortedOut checks ran svd scale isZero fine productTest every along roundsTest gramTest skipTest rotationTest turnTest pairTest sweepTest columnTest runTest
 tested ok lost m n a = runTest ok lost (longest m n) (least m n) 60 (begun m n a)
 
 unfoldable pub outcome : ℕ → ℕ → Vec → Outcome
-unfolding ofBits neg add sub mul div lt le eq seek first times upto rounds whole rootOf root magnitude isFinite table classOf scan placeOf byRows limitGood lengths least present decompositionLength gram skipped rotationOf rotated pairDone pairsOf sweep factorsBad verdict swept sweeps normSq divided normalStep normalised allBad finished jacobi rank noted order longest workLength source columnLoaded matrixLoaded eyed loaded columnOut factorOut sortedOut checks ran svd scale isZero fine
+unfolding ofBits neg add sub mul div lt le eq seek first times upto rounds whole rootOf root magnitude isFinite table rows classOf scan placeOf byRows limitGood lengths least present decompositionLength gram skipped rotationOf rotated pairDone pairsOf sweep factorsBad verdict swept sweeps normSq divided normalStep normalised allBad finished jacobi rank order longest workLength source loaded sortedOut checks ran svd scale isZero fine
 outcome m n a = svd m n 1 1 60 a (zeros (workLength m n)) (zeros (decompositionLength m n 1 1))
 
 -- ---- where the theorem has something to say

@@ -1,5 +1,5 @@
 -- **Gain does not move the basis** (`gain-keeps-basis`): two calls of `svd`, of a matrix and of 2 ^ k times it, k of either sign. Laws only.
-use mathlib.Core.Path.{_≡_, refl, sym, ap, _∙_, subst, subst₂}
+use mathlib.Core.Path.{_≡_, refl, sym, ap, _∙_, subst₂}
 use mathlib.Core.Bool.{Bool, true, false, cond, true≢false}
 use mathlib.Core.List.{map}
 use Prim.Native.Nat.{ℕ, zero, suc, _+_, _≤_, _<_, min}
@@ -27,7 +27,7 @@ use Rattle.svd_gain_theorems.specs.Fine.{RunFine, SvdFine}
 use Rattle.svd_gain_theorems.specs.Gained.{Gained}
 use Rattle.svd_gain_theorems.specs.LeftLaws.{svd-left}
 use Rattle.svd_gain_theorems.specs.Values.{Ends, jacobi-gain}
-use Rattle.svd_gain_theorems.specs.Out.{zeros-alike, loaded-alike, sorted-alike}
+use Rattle.svd_gain_theorems.specs.Out.{loaded-alike, sorted-alike}
 
 -- ---- up
 
@@ -70,11 +70,11 @@ module _ (k m n wantU wantVt limit : ℕ) (a b work work' result result' : Vec) 
       given a = refusal7 (firstBad a)
 
       on : Vec → Vec → Answer × Vec
-      on a work = jacobi (longest m n) (least m n) limit (loaded m n a (zeros (length work)))
+      on a work = jacobi (longest m n) (least m n) limit (loaded m n a)
 
       run : Vec → Vec → Vec → Outcome
       run a work result =
-          (on a work .0, zeros (length (zeros (length work))), cond (passed (on a work .0)) (sortedOut m n wantU wantVt (on a work .1) (zeros (length result))) (zeros (length result)))
+          (on a work .0, zeros (length (zeros (length work))), cond (passed (on a work .0)) (sortedOut m n wantU wantVt (on a work .1)) (zeros (length result)))
 
       checked : check b work' result' ≡ check a work result
       checked = rw (long, works, results)
@@ -86,14 +86,14 @@ module _ (k m n wantU wantVt limit : ℕ) (a b work work' result result' : Vec) 
       taken a work result p q = taken-by m n wantU wantVt limit a work result p q
 
       begins : (a work result : Vec) → passed (check a work result) ≡ true → passed (given a) ≡ true → SvdFine m n wantU wantVt limit a work result
-          → RunFine (longest m n) (least m n) limit (loaded m n a (zeros (length work)))
+          → RunFine (longest m n) (least m n) limit (loaded m n a)
       begins a work result p q f =
-          subst (λ (N : ℕ). RunFine (longest m n) (least m n) limit (loaded m n a (zeros N))) (sym (taken a work result p q .works)) (f (taken a work result p q))
+          f (taken a work result p q)
 
       jacobi-ends : passed (check a work result) ≡ true → passed (given a) ≡ true → Ends k (longest m n) (least m n) (on a work) (on b work')
       jacobi-ends p q =
-          jacobi-gain k (longest m n) (least m n) limit (loaded m n a (zeros (length work))) (loaded m n b (zeros (length work')))
-          (begins a work result p q f) (begins b work' result' (ap passed checked ∙ p) (ap passed scanned ∙ q) g) (rw works (loaded-alike k m n (length work) a b each))
+          jacobi-gain k (longest m n) (least m n) limit (loaded m n a) (loaded m n b)
+          (begins a work result p q f) (begins b work' result' (ap passed checked ∙ p) (ap passed scanned ∙ q) g) (loaded-alike k m n a b each)
 
       ends : passed (check a work result) ≡ true → passed (given a) ≡ true → Ends k (longest m n) (least m n) (on a work) (on b work')
           → Both k (least m n) (run a work result) (run b work' result')
@@ -103,11 +103,11 @@ module _ (k m n wantU wantVt limit : ℕ) (a b work work' result result' : Vec) 
           few = least-le m n 256 (taken a work result p q .tall) (taken a work result p q .wide)
 
           out : passed (on a work .0) ≡ true
-              → Alike (under k (least m n)) (cond (passed (on a work .0)) (sortedOut m n wantU wantVt (on a work .1) (zeros (length result))) (zeros (length result)))
-              (cond (passed (on b work' .0)) (sortedOut m n wantU wantVt (on b work' .1) (zeros (length result'))) (zeros (length result')))
+              → Alike (under k (least m n)) (cond (passed (on a work .0)) (sortedOut m n wantU wantVt (on a work .1)) (zeros (length result)))
+              (cond (passed (on b work' .0)) (sortedOut m n wantU wantVt (on b work' .1)) (zeros (length result')))
           out z =
-              rw (ap passed (e .answers), z, results)
-              (sorted-alike k m n wantU wantVt (on a work .1) (on b work' .1) (zeros (length result)) (zeros (length result)) few (e .worked z) (zeros-alike (under k (least m n)) (length result)))
+              rw (ap passed (e .answers), z)
+              (sorted-alike k m n wantU wantVt (on a work .1) (on b work' .1) few (e .worked z))
 
 -- ---- down, with the two calls in each other's place
 

@@ -1,5 +1,5 @@
 -- What a call of `svd` leaves in the arrays that it was lent. Laws only.
-use mathlib.Core.Path.{_≡_, refl, sym, ap, subst}
+use mathlib.Core.Path.{_≡_, refl, ap}
 use mathlib.Core.Logic.{_⊎_, ⊎-elim}
 use mathlib.Core.Bool.{Bool, true, false, cond}
 use Prim.Native.Nat.{ℕ}
@@ -19,17 +19,17 @@ use Rattle.svd_jacobi_svd_tall.specs.JacobiSvdTall.{jacobi}
 use Rattle.svd_sort_svd_descending.specs.Result.{longest, sortedOut}
 use Rattle.svd.specs.Svd.{loaded, checks, ran, svd}
 use Rattle.svd_theorems.specs.Outcome.{Outcome, begun}
-use Rattle.svd_theorems.specs.OutcomeLaws.{taken-by, begun-long}
+use Rattle.svd_theorems.specs.OutcomeLaws.{begun-long}
 use Rattle.svd_theorems.specs.OldContents.{svd-checks-few}
-use Rattle.svd_theorems.specs.SweepsOutcome.{Told, well, at-mark2, at-mark1, at-limit}
-use Rattle.svd_theorems.specs.SweepsOutcomeLaws.{told, swept-class}
+use Rattle.svd_theorems.specs.SweepsOutcome.{RunGives, well, at-mark2, at-mark1, at-limit}
+use Rattle.svd_theorems.specs.SweepsOutcomeLaws.{run-gives, swept-class}
 use Rattle.svd_gain_theorems.specs.Gained.{Left}
 
 -- a run answers 0, 8, 9 or 10
 late-class : (x : Answer) → (x .answer ≡ 8) ⊎ (x .answer ≡ 10) → Early x → ⊥
 late-class x c e = ⊎-elim (λ (h : x .answer ≡ 8). omega (arith, e .few)) (λ (h : x .answer ≡ 10). omega (arith, e .few)) c
 
-late : (rows cols limit : ℕ) (w : Vec) (o : Answer × Vec) → Told rows cols limit w o → Early (o .0) → ⊥
+late : (rows cols limit : ℕ) (w : Vec) (o : Answer × Vec) → RunGives rows cols limit w o → Early (o .0) → ⊥
 late rows cols limit w o (well s f) e = omega (arith, e .some)
 late rows cols limit w o (at-mark2 {a = a} s f) e = late-class (o .0) (first-class _ _ _ a f) e
 late rows cols limit w o (at-mark1 {a = a} {i = i} s) e = late-class (o .0) (swept-class rows cols s a i refl) e
@@ -51,13 +51,13 @@ module _ (m n wantU wantVt limit : ℕ) (matrix work result : Vec) where
       b = refusal7 (firstBad matrix)
 
       x : Answer × Vec
-      x = jacobi (longest m n) (least m n) limit (loaded m n matrix (zeros (length work)))
+      x = jacobi (longest m n) (least m n) limit (loaded m n matrix)
 
       again : (v : Vec) → zeros (length (zeros (length v))) ≡ zeros (length v)
       again v = ap zeros (length-replicate (length v) zero64)
 
       o : Outcome
-      o = (x .0, zeros (length (zeros (length work))), cond (passed (x .0)) (sortedOut m n wantU wantVt (x .1) (zeros (length result))) (zeros (length result)))
+      o = (x .0, zeros (length (zeros (length work))), cond (passed (x .0)) (sortedOut m n wantU wantVt (x .1)) (zeros (length result)))
 
       go : (p : Bool) → passed c ≡ p → (q : Bool) → passed b ≡ q → Left work result (cond p (cond q o (b, zeros (length work), zeros (length result))) (c, work, result))
       go true e true f =
@@ -69,9 +69,7 @@ module _ (m n wantU wantVt limit : ℕ) (matrix work result : Vec) where
         where
           late' : Early (x .0) → ⊥
           late' =
-              subst (λ (j : ℕ). Early (jacobi (longest m n) (least m n) limit (loaded m n matrix (zeros j)) .0) → ⊥)
-              (sym (taken-by m n wantU wantVt limit matrix work result e f .works))
-              (late (longest m n) (least m n) limit (begun m n matrix) _ (told (longest m n) (least m n) limit (begun m n matrix) (begun-long m n matrix)))
+              late (longest m n) (least m n) limit (begun m n matrix) _ (run-gives (longest m n) (least m n) limit (begun m n matrix) (begun-long m n matrix))
       go true e false f = record { untouched = λ h. absurd (seven (firstBad matrix) h); works = λ h. refl; cleared = λ h z. refl }
       go false e q f =
           let early : Early c = few-early c (svd-checks-few m n wantU wantVt limit (length matrix) (length work) (length result)) e in

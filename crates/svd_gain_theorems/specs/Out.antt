@@ -13,13 +13,15 @@ use Rattle.grid.specs.LoopLaws.{upto-keeps, upto-same}
 use Rattle.grid.specs.Real.{Vec, at, zeros, zero64, one64}
 use Rattle.grid.specs.Cell.{entry}
 use Rattle.grid.specs.CellLaws.{cell}
-use Rattle.answers.specs.Answers.{least, present}
+use Rattle.answers.specs.Answers.{least, present, decompositionLength}
 use Rattle.grid.specs.TableLaws.{row-end}
-use Rattle.svd_sort_svd_descending.specs.Order.{one, countStep, rank, noteStep, noted, order}
-use Rattle.svd_sort_svd_descending.specs.Rank.{order-below}
+use Rattle.svd_sort_svd_descending.specs.Order.{ahead, rank}
+use Rattle.svd_sort_svd_descending.specs.Rank.{noteStep, noted, noted-below}
 use Rattle.svd_sort_svd_descending.specs.ResultSizes.{left-side, right-side, factor-room}
-use Rattle.svd_sort_svd_descending.specs.Result.{longest, cellStep, columnOut, sortStep, factorOut, offset, sortedOut}
-use Rattle.svd.specs.Svd.{source, loadStep, columnLoaded, matrixLoaded, eyeStep, eyed, loaded}
+use Rattle.svd_sort_svd_descending.specs.Result.{longest, workLength, sortedOut}
+use Rattle.svd_sort_svd_descending.specs.OutLaws.{cellStep, columnOut, sortStep, factorOut, offset, outOf, out-sorted}
+use Rattle.svd.specs.Svd.{source, loaded}
+use Rattle.svd.specs.LoadedLaws.{loadStep, columnLoaded, matrixLoaded, eyeStep, eyed, loadedIn, loaded-is}
 use Rattle.svd_gain_theorems.specs.Scale.{scale, Scaled}
 use Rattle.svd_gain_theorems.specs.Compare.{lt-scaled}
 use Rattle.svd_gain_theorems.specs.Alike.{Alike, under}
@@ -40,10 +42,10 @@ zeros-alike κ n = record { long = refl; each = λ i. go i (ltb i n) refl }
         out : n ≤ i → length (zeros n) ≤ i
         out h = omega (arith, length-replicate n zero64)
 
-pub loaded-alike : (k m n N : ℕ) (a b : Vec) → ((i : ℕ) → Scaled k (at a i) (at b i))
-    → Alike (under k (longest m n * least m n)) (loaded m n a (zeros N)) (loaded m n b (zeros N))
-unfolding loaded eyed matrixLoaded columnLoaded source
-loaded-alike k m n N a b h =
+in-alike : (k m n N : ℕ) (a b : Vec) → ((i : ℕ) → Scaled k (at a i) (at b i))
+    → Alike (under k (longest m n * least m n)) (loadedIn m n a (zeros N)) (loadedIn m n b (zeros N))
+unfolding loadedIn eyed matrixLoaded columnLoaded source
+in-alike k m n N a b h =
     upto-keeps (Alike κ) (eyeStep rows cols) (eyeStep rows cols) 0 cols _ _
     (λ j x y _ _ e. alike-set κ x y (rows * cols + j * cols + j) one64 e (equally one64 _ (under-out k (rows * cols) (rows * cols + j * cols + j) (omega arith)) refl))
     (upto-keeps (Alike κ) (columnLoaded m n rows a) (columnLoaded m n rows b) 0 cols (zeros N) (zeros N)
@@ -66,19 +68,22 @@ loaded-alike k m n N a b h =
     cell-of true i j = h (j * n + i)
     cell-of false i j = h (i * n + j)
 
+pub loaded-alike : (k m n : ℕ) (a b : Vec) → ((i : ℕ) → Scaled k (at a i) (at b i)) → Alike (under k (longest m n * least m n)) (loaded m n a) (loaded m n b)
+loaded-alike k m n a b h = rw (← loaded-is m n a, ← loaded-is m n b) (in-alike k m n (workLength m n) a b h)
+
 -- ---- the order
 
-pub order-same : (k r : ℕ) (s t : ℕ → Float) → ((j : ℕ) → j < r → Scaled k (s j) (t j)) → order t r ≡ order s r
-unfolding order noted rank
-order-same k r s t h = upto-same (noteStep t r) (noteStep s r) 0 r (replicate 256 0) (λ j o _ J. ap (λ (p : ℕ). set o p j) (places j J))
+noted-same : (k r : ℕ) (s t : ℕ → Float) → ((j : ℕ) → j < r → Scaled k (s j) (t j)) → noted t r (replicate 256 0) ≡ noted s r (replicate 256 0)
+unfolding noted rank
+noted-same k r s t h = upto-same (noteStep t r) (noteStep s r) 0 r (replicate 256 0) (λ j o _ J. ap (λ (p : ℕ). set o p j) (places j J))
   where
     less : (i j : ℕ) → i < r → j < r → lt (t i) (t j) ≡ lt (s i) (s j)
     less i j I J = ap₂ lt (h i I) (h j J) ∙ lt-scaled k (s i) (s j)
 
     places : (j : ℕ) → j < r → rank t r j ≡ rank s r j
     places j J =
-        upto-same (countStep t j) (countStep s j) 0 r 0
-        (λ i c _ I. ap₂ (λ x y. c + one (x || not y && ltb i j)) (less j i J I) (less i j I J))
+        upto-same (λ i c. c + cond (ahead t i j) 1 0) (λ i c. c + cond (ahead s i j) 1 0) 0 r 0
+        (λ i c _ I. ap₂ (λ x y. c + cond (x || not y && ltb i j) 1 0) (less j i J I) (less i j I J))
 
 -- ---- one factor laid out
 
@@ -114,11 +119,11 @@ present-less flag r k h = go (eqb flag 0) h
     go true h = absurd (omega arith)
     go false h = h
 
-pub sorted-alike : (k m n wantU wantVt : ℕ) (w v x y : Vec) → least m n ≤ 256
+out-alike : (k m n wantU wantVt : ℕ) (w v x y : Vec) → least m n ≤ 256
     → Alike (stage k (longest m n) (least m n) (longest m n * least m n) (least m n)) w v → Alike (under k (least m n)) x y
-    → Alike (under k (least m n)) (sortedOut m n wantU wantVt w x) (sortedOut m n wantU wantVt v y)
-unfolding sortedOut
-sorted-alike k m n wantU wantVt w v x y few h e =
+    → Alike (under k (least m n)) (outOf m n wantU wantVt w x) (outOf m n wantU wantVt v y)
+unfolding outOf
+out-alike k m n wantU wantVt w v x y few h e =
     rw orders
     (factor-alike ρ (present wantVt r) (offset (leb n m) second) n (r + present wantU (m * r)) 1 n w v o _ _
     (λ j i J I. same j (offset (leb n m) second + getD o j 0 * n + i) (r + present wantU (m * r) + j * n + i * 1) (omega arith)
@@ -141,16 +146,16 @@ sorted-alike k m n wantU wantVt w v x y few h e =
     ρ = under k r
 
     o : List ℕ
-    o = order (λ j. at w (base + j)) r
+    o = noted (λ j. at w (base + j)) r (replicate 256 0)
 
     value : (j : ℕ) → j < r → Scaled k (at w (base + j)) (at v (base + j))
     value j J = powered (at w (base + j)) (value-power k second base r j (omega arith) J) (h .each (base + j))
 
-    orders : order (λ j. at v (base + j)) r ≡ o
-    orders = order-same k r (λ j. at w (base + j)) (λ j. at v (base + j)) value
+    orders : noted (λ j. at v (base + j)) r (replicate 256 0) ≡ o
+    orders = noted-same k r (λ j. at w (base + j)) (λ j. at v (base + j)) value
 
     reads : (from rows j i : ℕ) → j < r → i < rows → from + r * rows ≤ base → from + getD o j 0 * rows + i < base
-    reads from rows j i J I room = omega (arith, cell r rows (getD o j 0) i (order-below (λ j. at w (base + j)) r few j J) I)
+    reads from rows j i J I room = omega (arith, cell r rows (getD o j 0) i (noted-below (λ j. at w (base + j)) r few j J) I)
 
     same : (j a b : ℕ) → r ≤ b → a < base → Scaled (ρ b) (at w a) (at v a)
     same j a b B A = equally (at w a) (ρ b) (under-out k r b B) (equal (at w a) (powers k second base second r a) (factor-power k second base r a A) (h .each a))
@@ -160,4 +165,11 @@ sorted-alike k m n wantU wantVt w v x y few h e =
         let a = getD o j 0 in
         let here : base + a ≡ base + a * 1 + i = omega arith in
         subst (λ (z : ℕ). Scaled (ρ (0 + j * 1 + i * 1)) (at w z) (at v z)) here
-        (powered (at w (base + a)) (sym (under-in k r (0 + j * 1 + i * 1) (omega arith))) (value a (order-below (λ j. at w (base + j)) r few j J)))
+        (powered (at w (base + a)) (sym (under-in k r (0 + j * 1 + i * 1) (omega arith))) (value a (noted-below (λ j. at w (base + j)) r few j J)))
+
+pub sorted-alike : (k m n wantU wantVt : ℕ) (w v : Vec) → least m n ≤ 256 → Alike (stage k (longest m n) (least m n) (longest m n * least m n) (least m n)) w v
+    → Alike (under k (least m n)) (sortedOut m n wantU wantVt w) (sortedOut m n wantU wantVt v)
+sorted-alike k m n wantU wantVt w v few h =
+    let N : ℕ = decompositionLength m n wantU wantVt in
+    let same : (w : Vec) → outOf m n wantU wantVt w (zeros N) ≡ sortedOut m n wantU wantVt w = λ w. out-sorted m n wantU wantVt w (zeros N) few (length-replicate N zero64) in
+    rw (← same w, ← same v) (out-alike k m n wantU wantVt w v (zeros N) (zeros N) few h (zeros-alike (under k (least m n)) N))

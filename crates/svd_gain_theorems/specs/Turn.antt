@@ -14,7 +14,8 @@ use Rattle.root.specs.Root.{root}
 use Rattle.leaves.specs.Leaf.{magnitude}
 use Rattle.svd_jacobi_svd_tall.specs.declared.sweep.Sums.{Sums}
 use Rattle.svd_jacobi_svd_tall.specs.declared.sweep.Rotation.{Rotation}
-use Rattle.svd_jacobi_svd_tall.specs.Sweep.{uAt, vAt, gramStep, gram, skipped, signOf, rotationOf, rotateStep, rotated, pairDone}
+use Rattle.svd_jacobi_svd_tall.specs.Sweep.{uAt, vAt, gram, skipped, signOf, rotationOf, rotated, pairDone}
+use Rattle.svd_jacobi_svd_tall.specs.SweepSteps.{gramStep, rotateStep}
 use Rattle.grid.specs.TableLaws.{row-end}
 use Rattle.svd_gain_theorems.specs.Scale.{scale, Scaled}
 use Rattle.svd_gain_theorems.specs.Compare.{eq-scaled, le-scaled, magnitude-scaled}

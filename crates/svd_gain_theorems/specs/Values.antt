@@ -23,7 +23,8 @@ use Rattle.answers.specs.declared.Answer.{Answer}
 use Rattle.grid.specs.TableLaws.{row-end}
 use Rattle.svd_jacobi_svd_tall.specs.Sweep.{valueAt}
 use Rattle.svd_jacobi_svd_tall.specs.Marks.{factors, factorsBad, allBad}
-use Rattle.svd_jacobi_svd_tall.specs.SingularValues.{normStep, normSq, divideStep, divided, normalStep, normalised}
+use Rattle.svd_jacobi_svd_tall.specs.SingularValues.{normSq, divided, normalStep, normalised}
+use Rattle.svd_jacobi_svd_tall.specs.SingularValuesSteps.{normStep, divideStep}
 use Rattle.svd_jacobi_svd_tall.specs.JacobiSvdTall.{sweeps, finished, jacobi}
 use Rattle.svd_gain_theorems.specs.Scale.{isZero, Scaled}
 use Rattle.svd_gain_theorems.specs.Compare.{lt-scaled, zero-scaled}

@@ -8,21 +8,13 @@ use Rattle.grid.specs.Real.{Vec, at, zero64, _⊕_, _⊗_, _⊘_}
 use Rattle.root.specs.Root.{root}
 use Rattle.svd_jacobi_svd_tall.specs.Sweep.{uAt, valueAt}
 
--- the sum, and the square of number i of the column at a
-abbrev pub normStep : ℕ → Vec → ℕ → Float → Float
-normStep a w i x = x ⊕ at w (a + i) ⊗ at w (a + i)
-
 -- the squares of the column at a, summed from its first number on, starting at +0.0
 unfoldable pub normSq : ℕ → ℕ → Vec → Float
-normSq a rows w = upto (normStep a w) 0 rows zero64
-
--- number i of the column at a over norm
-abbrev pub divideStep : ℕ → Float → ℕ → Vec → Vec
-divideStep a norm i w = set w (a + i) (at w (a + i) ⊘ norm)
+normSq a rows w = upto (λ i x. x ⊕ at w (a + i) ⊗ at w (a + i)) 0 rows zero64
 
 -- the column at a over norm, number by number
 unfoldable pub divided : ℕ → ℕ → Float → Vec → Vec
-divided a rows norm w = upto (divideStep a norm) 0 rows w
+divided a rows norm w = upto (λ i w. set w (a + i) (at w (a + i) ⊘ norm)) 0 rows w
 
 -- column j: its norm is the value, and it is divided unless that is 0
 unfoldable pub normalStep : ℕ → ℕ → ℕ → Vec → Vec

@@ -28,16 +28,13 @@ valueAt rows cols j = rows * cols + cols * cols + j
 
 -- ---- one pair of columns
 
--- alpha, beta and gamma of the columns at a and b
-abbrev pub gramStep : ℕ → ℕ → Vec → ℕ → Sums → Sums
-gramStep a b w i x =
+-- alpha, beta and gamma of the columns at a and b, each summed from +0.0
+unfoldable pub gram : ℕ → ℕ → ℕ → Vec → Sums
+gram a b rows w =
+    upto (λ i x.
     let up = at w (a + i) in
     let uq = at w (b + i) in
-    record { alpha = x .alpha ⊕ up ⊗ up; beta = x .beta ⊕ uq ⊗ uq; gamma = x .gamma ⊕ up ⊗ uq }
-
--- `gramStep` for i = 0 .. rows - 1, each sum from +0.0
-unfoldable pub gram : ℕ → ℕ → ℕ → Vec → Sums
-gram a b rows w = upto (gramStep a b w) 0 rows (record { alpha = zero64; beta = zero64; gamma = zero64 })
+    record { alpha = x .alpha ⊕ up ⊗ up; beta = x .beta ⊕ uq ⊗ uq; gamma = x .gamma ⊕ up ⊗ uq }) 0 rows (record { alpha = zero64; beta = zero64; gamma = zero64 })
 
 -- the columns are orthogonal to working precision
 unfoldable pub skipped : Sums → Bool
@@ -56,15 +53,12 @@ rotationOf x =
     record { c = c; s = c ⊗ t; t = t }
 
 -- the columns at a and b, rotated
-abbrev pub rotateStep : ℕ → ℕ → Rotation → ℕ → Vec → Vec
-rotateStep a b rot i w =
+unfoldable pub rotated : ℕ → ℕ → ℕ → Rotation → Vec → Vec
+rotated a b rows rot w =
+    upto (λ i w.
     let up = at w (a + i) in
     let uq = at w (b + i) in
-    set (set w (a + i) (rot .c ⊗ up ⊖ rot .s ⊗ uq)) (b + i) (rot .s ⊗ up ⊕ rot .c ⊗ uq)
-
--- `rotateStep` for i = 0 .. rows - 1
-unfoldable pub rotated : ℕ → ℕ → ℕ → Rotation → Vec → Vec
-rotated a b rows rot w = upto (rotateStep a b rot) 0 rows w
+    set (set w (a + i) (rot .c ⊗ up ⊖ rot .s ⊗ uq)) (b + i) (rot .s ⊗ up ⊕ rot .c ⊗ uq)) 0 rows w
 
 -- columns p and q of both factors by one rotation; the flag says whether a pair was rotated
 unfoldable pub pairDone : ℕ → ℕ → ℕ → ℕ → Bool × Vec → Bool × Vec

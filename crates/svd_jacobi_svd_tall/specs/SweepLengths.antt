@@ -7,7 +7,8 @@ use Rattle.grid.specs.Loop.{upto}
 use Rattle.grid.specs.LoopLaws.{upto-keeps}
 use Rattle.grid.specs.Real.{Vec}
 use Rattle.svd_jacobi_svd_tall.specs.declared.sweep.Rotation.{Rotation}
-use Rattle.svd_jacobi_svd_tall.specs.Sweep.{uAt, vAt, gram, skipped, rotationOf, rotateStep, rotated, pairDone, pairsOf, sweep}
+use Rattle.svd_jacobi_svd_tall.specs.Sweep.{uAt, vAt, gram, skipped, rotationOf, rotated, pairDone, pairsOf, sweep}
+use Rattle.svd_jacobi_svd_tall.specs.SweepSteps.{rotateStep}
 
 -- what every function on w asks
 pub record Sized (rows cols : ℕ) (w : Vec) : Type 0 where

@@ -1,11 +1,11 @@
 -- The result of document 000's `svd`: values, U and V^T out of the work array, in their order. Definitions only.
-use mathlib.Core.Bool.{Bool, cond}
-use mathlib.Core.List.{List}
+use mathlib.Core.Bool.{cond}
+use mathlib.Core.List.{_++_}
 use Prim.Native.Nat.{ℕ, _+_, _*_}
 use lib.Dec.{ltb, leb}
-use lib.ListN.{set, getD}
-use Rattle.grid.specs.Loop.{upto}
+use lib.Ieee.{Float}
 use Rattle.grid.specs.Real.{Vec, at}
+use Rattle.grid.specs.Table.{table, rows}
 use Rattle.answers.specs.Answers.{least, present}
 use Rattle.svd_sort_svd_descending.specs.Order.{order}
 
@@ -17,51 +17,25 @@ longest m n = cond (ltb m n) n m
 unfoldable pub workLength : ℕ → ℕ → ℕ
 workLength m n = longest m n * least m n + least m n * least m n + least m n
 
--- so many numbers of w go to every down-th number of the result
-abbrev pub cellStep : ℕ → ℕ → ℕ → Vec → ℕ → Vec → Vec
-cellStep from to down w i res = set res (to + i * down) (at w (from + i))
+-- value p of what was worked out: the values stand last in w
+abbrev pub valueOf : ℕ → ℕ → Vec → ℕ → Float
+valueOf m n w p = at w (longest m n * least m n + least m n * least m n + p)
 
--- `cellStep` for i = 0 .. rows - 1: a column goes out
-unfoldable pub columnOut : ℕ → ℕ → ℕ → ℕ → Vec → Vec → Vec
-columnOut from rows to down w res = upto (cellStep from to down w) 0 rows res
+-- cell (i, p) of the factor of m rows: the factor with L rows stands first in w, column by column, the other behind it
+abbrev pub uFactor : ℕ → ℕ → Vec → ℕ → ℕ → Float
+uFactor m n w i p = at w (cond (ltb m n) (longest m n * least m n) 0 + p * m + i)
 
--- A factor of so many rows stands in w column by column. Its cell (i, o k) goes to the result's index to + k·across + i·down.
-abbrev pub sortStep : ℕ → ℕ → ℕ → ℕ → ℕ → Vec → List ℕ → ℕ → Vec → Vec
-sortStep from rows to down across w o k res = columnOut (from + getD o k 0 * rows) rows (to + k * across) down w res
+-- cell (j, p) of the factor of n rows
+abbrev pub vFactor : ℕ → ℕ → Vec → ℕ → ℕ → Float
+vFactor m n w j p = at w (cond (leb n m) (longest m n * least m n) 0 + p * n + j)
 
--- `sortStep` for k = 0 .. cols - 1: a factor goes out, its columns in the order o
-unfoldable pub factorOut : ℕ → ℕ → ℕ → ℕ → ℕ → ℕ → Vec → List ℕ → Vec → Vec
-factorOut cols from rows to down across w o res = upto (sortStep from rows to down across w o) 0 cols res
+-- the column that comes to place k
+abbrev pub orderOf : ℕ → ℕ → Vec → ℕ → ℕ
+orderOf m n w k = order (valueOf m n w) (least m n) k
 
--- a factor as it stands in w: the index at which it begins, and how many rows and columns of it are wanted
-pub record Factor : Type 0 where
-  pub from : ℕ
-  pub rows : ℕ
-  pub cols : ℕ
-
--- it goes out row by row from index `to` on, with r numbers in a row
-abbrev pub rowsOut : Factor → ℕ → ℕ → Vec → List ℕ → Vec → Vec
-rowsOut f r to w o res = factorOut (f .cols) (f .from) (f .rows) to r 1 w o res
-
--- or its transpose does: a column of the factor is a row of the result
-abbrev pub transposedOut : Factor → ℕ → Vec → List ℕ → Vec → Vec
-transposedOut f to w o res = factorOut (f .cols) (f .from) (f .rows) to 1 (f .rows) w o res
-
--- k where b holds, else 0
-abbrev pub offset : Bool → ℕ → ℕ
-offset b k = cond b k 0
-
--- The r values, then U row by row if wanted, then V^T row by row if wanted. The factor with L rows stands first in w, and is V where m < n, else U; the other stands
--- second; the values, a factor of one row, stand last.
-unfoldable pub sortedOut : ℕ → ℕ → ℕ → ℕ → Vec → Vec → Vec
-sortedOut m n wantU wantVt w res =
-    let r = least m n in
-    let second = longest m n * r in
-    let values = second + r * r in
-    let o = order (λ j. at w (values + j)) r in
-    let s : Factor = record { from = values; rows = 1; cols = r } in
-    let u : Factor = record { from = offset (ltb m n) second; rows = m; cols = present wantU r } in
-    let v : Factor = record { from = offset (leb n m) second; rows = n; cols = present wantVt r } in
-    let withValues = transposedOut s 0 w o res in
-    let withU = rowsOut u r r w o withValues in
-    transposedOut v (r + present wantU (m * r)) w o withU
+-- the r values, then U row by row if wanted, then V^T row by row if wanted
+unfoldable pub sortedOut : ℕ → ℕ → ℕ → ℕ → Vec → Vec
+sortedOut m n wantU wantVt w =
+    table (λ k. valueOf m n w (orderOf m n w k)) (least m n)
+    ++ (rows (λ i. table (λ k. uFactor m n w i (orderOf m n w k)) (least m n)) (present wantU m)
+    ++ rows (λ k. table (λ j. vFactor m n w j (orderOf m n w k)) n) (present wantVt (least m n)))

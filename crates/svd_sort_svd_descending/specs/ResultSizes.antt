@@ -13,7 +13,8 @@ use Rattle.grid.specs.CellLaws.{cell}
 use Rattle.answers.specs.Answers.{least, present, decompositionLength}
 use Rattle.answers.specs.AnswersLaws.{least-le, present-le, product-le}
 use Rattle.svd_sort_svd_descending.specs.Rank.{Below}
-use Rattle.svd_sort_svd_descending.specs.Result.{longest, workLength, offset}
+use Rattle.svd_sort_svd_descending.specs.Result.{longest, workLength}
+use Rattle.svd_sort_svd_descending.specs.OutLaws.{offset}
 
 -- both dimensions are at most 256, and the two arrays have their lengths
 pub record Checked (m n wantU wantVt : ℕ) (work result : Vec) : Type 0 where

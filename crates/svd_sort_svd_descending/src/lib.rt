@@ -4,7 +4,8 @@ pub mod order; // The order of document 000's `sort_svd_descending`, by counting
 ghost use mathlib.Core.Path.{_≡_};
 ghost use Prim.Native.Nat.{ℕ, _+_, _*_, _≤_, _<_};
 ghost use lib.ListN.{length};
-ghost use Rattle.svd_sort_svd_descending.specs.Result.{longest, columnOut, factorOut, offset, sortedOut};
+ghost use Rattle.svd_sort_svd_descending.specs.Result.{longest, sortedOut};
+ghost use Rattle.svd_sort_svd_descending.specs.OutLaws.{columnOut, factorOut, offset};
 ghost use Rattle.svd_sort_svd_descending.specs.ResultSizes.{Checked, Out};
 use crate::order::note;
 use answers::least;
@@ -60,7 +61,7 @@ fn offset(b: bool, k: usize) -> usize
 // The result where the run is done: the factor with L rows stands first in w.
 pub fn sorted_out(m: usize, n: usize, want_u: usize, want_vt: usize, w: &[f64], res: &mut [f64])
     requires { ⌜ Checked m n «want_u» «want_vt» (now w) (now res) ⌝ }
-    ensures { λ _. ⌜ now (res .exit) ≡ sortedOut m n «want_u» «want_vt» (now (w .entry)) (now (res .entry)) ⌝ }
+    ensures { λ _. ⌜ now (res .exit) ≡ sortedOut m n «want_u» «want_vt» (now (w .entry)) ⌝ }
 {
     let r = least(m, n);
     let second = longest(m, n) * r;

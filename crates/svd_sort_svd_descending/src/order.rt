@@ -3,7 +3,8 @@ ghost use mathlib.Core.Path.{_≡_};
 ghost use Prim.Native.Nat.{ℕ, _+_, _≤_, _<_};
 ghost use lib.ListN.{length};
 ghost use Rattle.grid.specs.Real.{at};
-ghost use Rattle.svd_sort_svd_descending.specs.Order.{ahead, one, rank, noted};
+ghost use Rattle.svd_sort_svd_descending.specs.Order.{ahead, rank};
+ghost use Rattle.svd_sort_svd_descending.specs.Rank.{one, noted};
 use grid::LARGEST;
 use grid::at1;
 

@@ -21,7 +21,7 @@ use Rattle.svd_theorems.specs.Result.{svd-cells-u, svd-cells-vt}
 numbers : (m n wantU wantVt limit : ℕ) (matrix work result : Vec)
     → svd m n wantU wantVt limit matrix work result .0
     ≡ cond (passed (checks m n wantU wantVt limit (length matrix) (length work) (length result)))
-    (cond (passed (refusal7 (firstBad matrix))) (jacobi (longest m n) (least m n) limit (loaded m n matrix (zeros (length work))) .0) (refusal7 (firstBad matrix)))
+    (cond (passed (refusal7 (firstBad matrix))) (jacobi (longest m n) (least m n) limit (loaded m n matrix) .0) (refusal7 (firstBad matrix)))
     (checks m n wantU wantVt limit (length matrix) (length work) (length result))
 unfolding svd ran
 numbers m n wantU wantVt limit matrix work result = go (passed c) (passed b)
@@ -60,7 +60,7 @@ module _ (m n u vt u′ vt′ limit : ℕ) (matrix work result work′ result′
   svd-flags-numbers =
       numbers m n u vt limit matrix work result
       ∙ (λ i. cond (passed (checks-same i))
-      (cond (passed (refusal7 (firstBad matrix))) (jacobi (longest m n) (least m n) limit (loaded m n matrix (zeros (lw i))) .0) (refusal7 (firstBad matrix)))
+      (cond (passed (refusal7 (firstBad matrix))) (jacobi (longest m n) (least m n) limit (loaded m n matrix) .0) (refusal7 (firstBad matrix)))
       (checks-same i))
       ∙ sym (numbers m n u′ vt′ limit matrix work′ result′)
 

@@ -11,7 +11,8 @@ use Rattle.answers.specs.declared.Answer.{Answer}
 use Rattle.svd_jacobi_svd_tall.specs.Sweep.{uAt, valueAt}
 use Rattle.svd_jacobi_svd_tall.specs.SweepLengths.{keeps, sweep-length}
 use Rattle.svd_jacobi_svd_tall.specs.JacobiSvdTall.{swept, ended}
-use Rattle.svd_jacobi_svd_tall.specs.SingularValues.{normSq, divideStep, divided, normalStep, normalised}
+use Rattle.svd_jacobi_svd_tall.specs.SingularValues.{normSq, divided, normalStep, normalised}
+use Rattle.svd_jacobi_svd_tall.specs.SingularValuesSteps.{divideStep}
 
 module _ (n : ℕ) where
   pub rounds-length : (rows cols k : ℕ) (x : Answer × Vec) → length (x .1) ≡ n → length (rounds (swept rows cols) ended k x .1) ≡ n

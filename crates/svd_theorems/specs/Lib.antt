@@ -1,4 +1,4 @@
--- What holds of `svd`, cited by no code: its sweeps told by document 000's own, its order, its factors, what its index says.
+-- What holds of `svd`, cited by no code: its sweeps by document 000's own, its order, its factors, what its index says.
 pub mod Document
 pub mod Lengths
 pub mod SweepsOutcome
@@ -6,7 +6,6 @@ pub mod SweepsOutcomeLaws
 pub mod Outcome
 pub mod Order
 pub mod OutcomeLaws
-pub mod Factors
 pub mod Promise
 pub mod Limit
 pub mod Result

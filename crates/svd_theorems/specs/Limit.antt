@@ -43,8 +43,8 @@ jacobi-limit rows cols k l w z p = record {
 ran-limit : (m n wantU wantVt k l : ℕ) (matrix work result : Vec) → 1 ≤ k → k ≤ l → Settled answer3 (ran m n wantU wantVt k matrix work result) (ran m n wantU wantVt l matrix work result)
 unfolding ran
 ran-limit m n wantU wantVt k l matrix work result z p = record {
-  same = λ h. ap (λ (x : Answer × Vec). (x .0, zeros (length work), cond (passed (x .0)) (sortedOut m n wantU wantVt (x .1) result) result))
-      (jacobi-limit (longest m n) (least m n) k l (loaded m n matrix work) z p .same h);
+  same = λ h. ap (λ (x : Answer × Vec). (x .0, zeros (length work), cond (passed (x .0)) (sortedOut m n wantU wantVt (x .1)) result))
+      (jacobi-limit (longest m n) (least m n) k l (loaded m n matrix) z p .same h);
 }
 
 checks-limit : (m n wantU wantVt k l a b c : ℕ) → 1 ≤ k → k ≤ l → l ≤ 60 → checks m n wantU wantVt k a b c ≡ checks m n wantU wantVt l a b c

@@ -2,18 +2,15 @@
 -- Counting gives each column a place of its own, before every column that comes after it; and as many places as columns leave none free.
 use mathlib.Core.Path.{_≡_, refl, sym, ap, _∙_}
 use mathlib.Core.Bool.{Bool, true, false, cond, true≢false}
-use mathlib.Core.List.{List}
 use Prim.Native.Nat.{ℕ, zero, suc, _+_, _<_, _≤_}
 use native.Mathlib.Omega.{arith}
 use borrow.Author.Tests.{ltb-true, ltb-false, lt-ltb, eqb-true, eqb-false}
 use lib.Dec.{ltb, eqb}
 use lib.Ieee.{Float, lt}
-use lib.ListN.{length, set, getD, replicate, length-set, length-replicate}
-use lib.Seq.{getD-set-same, getD-set-other}
 use Rattle.grid.specs.LoopLaws.{upto-both}
 use Rattle.leaves.specs.Leaf.{isFinite}
-use Rattle.svd_sort_svd_descending.specs.Order.{ahead, one, rank, noteStep, noted, order}
-use Rattle.svd_sort_svd_descending.specs.Rank.{total, total-none, total-more, ahead-self, rank-total, rank-lt, order-below}
+use Rattle.svd_sort_svd_descending.specs.Order.{ahead, rank, order}
+use Rattle.svd_sort_svd_descending.specs.Rank.{total, total-none, total-more, one, ahead-self, rank-total, rank-lt, placeStep, order-below}
 use Rattle.svd_theorems.specs.Document.{Sorted}
 use Rattle.leaves.specs.Compare.{lt-chain, lt-turn, le-of-not, not-of-eq}
 
@@ -164,48 +161,41 @@ module _ (s : ℕ → Float) (r : ℕ) (finite : (k : ℕ) → k < r → isFinit
       go false e true g = absurd (omega (arith, rank-less i j a b g))
       go false e false g = absurd (omega (arith, rank-less j i b a (ahead-total i j (eqb-false i j e) g)))
 
-  -- a column stays noted at its place
-  noted-at : (o : List ℕ) → length o ≡ 256 → r ≤ 256 → (k : ℕ) → k < r → getD (noted s r o) (rank s r k) 0 ≡ k
-  unfolding noted
-  noted-at o size few =
-      upto-both (λ n x y. (length x ≡ 256) × ((k : ℕ) → k < n → getD x (rank s r k) 0 ≡ k)) (noteStep s r) (noteStep s r) 0 r o o (omega arith)
-      (λ j x y a b h. (length-set x (rank s r j) j ∙ h .0, λ k l. turn j x b h k l (eqb k j) refl)) (size, λ k l. absurd (omega arith)) .1
-    where
-      turn : (j : ℕ) (x : List ℕ) → j < r → (length x ≡ 256) × ((k : ℕ) → k < j → getD x (rank s r k) 0 ≡ k)
-          → (k : ℕ) → k < j + 1 → (t : Bool) → eqb k j ≡ t → getD (set x (rank s r j) j) (rank s r k) 0 ≡ k
-      turn j x b h k l true e =
-          let same : k ≡ j = eqb-true k j e in
-          rw same (getD-set-same x (rank s r j) j 0 (omega (arith, rank-lt s r j b, h .0)))
-      turn j x b h k l false e =
-          let other : k ≡ j → ⊥ = eqb-false k j e in
-          let below : k < j = omega arith in
-          getD-set-other x (rank s r j) (rank s r k) j 0 (λ q. other (rank-apart k j (omega arith) b q)) ∙ h .1 k below
-
-  order-at : r ≤ 256 → (k : ℕ) → k < r → getD (order s r) (rank s r k) 0 ≡ k
+  -- the column that comes to the place of k is k
+  order-at : (k : ℕ) → k < r → order s r (rank s r k) ≡ k
   unfolding order
-  order-at few = noted-at (replicate 256 0) (length-replicate {A = ℕ} 256 0) few
+  order-at k h = upto-both (λ n c d. k < n → c ≡ k) (placeStep s r (rank s r k)) (placeStep s r (rank s r k)) 0 r 0 0 (omega arith) (λ j c d a b g. turn j c b g) (λ l. absurd (omega arith)) h
+    where
+      turn : (j c : ℕ) → j < r → (k < j → c ≡ k) → k < j + 1 → placeStep s r (rank s r k) j c ≡ k
+      turn j c b g l = go (eqb (rank s r j) (rank s r k)) refl
+        where
+          go : (t : Bool) → eqb (rank s r j) (rank s r k) ≡ t → cond t j c ≡ k
+          go true e = rank-apart j k b h (eqb-true _ _ e)
+          go false e =
+              let other : k ≡ j → ⊥ = λ q. eqb-false _ _ e (ap (rank s r) (sym q)) in
+              g (omega arith)
 
-  -- and the column that is noted at a place has that place
-  rank-at : r ≤ 256 → (p : ℕ) → p < r → rank s r (getD (order s r) p 0) ≡ p
-  rank-at few p h =
+  -- and the column that comes to a place has that place
+  rank-at : (p : ℕ) → p < r → rank s r (order s r p) ≡ p
+  rank-at p h =
       let f = full r (rank s r) (rank-lt s r) rank-apart p h in
-      ap (λ (q : ℕ). rank s r (getD (order s r) q 0)) (sym (f .2)) ∙ ap (rank s r) (order-at few (f .0) (f .1)) ∙ f .2
+      ap (λ (q : ℕ). rank s r (order s r q)) (sym (f .2)) ∙ ap (rank s r) (order-at (f .0) (f .1)) ∙ f .2
 
   -- of two places the lower has the column that comes first
-  order-ahead : r ≤ 256 → (p q : ℕ) → p < q → q < r → ahead s (getD (order s r) p 0) (getD (order s r) q 0) ≡ true
-  order-ahead few p q h l = go (ahead s (getD (order s r) p 0) (getD (order s r) q 0)) refl
+  order-ahead : (p q : ℕ) → p < q → q < r → ahead s (order s r p) (order s r q) ≡ true
+  order-ahead p q h l = go (ahead s (order s r p) (order s r q)) refl
     where
       i : ℕ
-      i = getD (order s r) p 0
+      i = order s r p
 
       j : ℕ
-      j = getD (order s r) q 0
+      j = order s r q
 
       first : rank s r i ≡ p
-      first = rank-at few p (omega arith)
+      first = rank-at p (omega arith)
 
       second : rank s r j ≡ q
-      second = rank-at few q l
+      second = rank-at q l
 
       go : (t : Bool) → ahead s i j ≡ t → ahead s i j ≡ true
       go true e = e
@@ -215,18 +205,18 @@ module _ (s : ℕ → Float) (r : ℕ) (finite : (k : ℕ) → k < r → isFinit
             arith,
             first,
             second,
-            rank-less j i (order-below s r few q l) (order-below s r few p (omega arith))
+            rank-less j i (order-below s r q l) (order-below s r p (omega arith))
                 (ahead-total i j (λ (same : i ≡ j). omega (arith, first, second, ap (rank s r) same)) e),
           ))
 
   pub order-sorted : r ≤ 256 → Sorted s r (order s r)
   order-sorted few =
       record {
-        within = order-below s r few;
-        there = λ k h. (rank s r k, rank-lt s r k h, order-at few k h);
-        once = λ p q h l e. sym (rank-at few p h) ∙ ap (rank s r) e ∙ rank-at few q l;
+        within = order-below s r;
+        there = λ k h. (rank s r k, rank-lt s r k h, order-at k h);
+        once = λ p q h l e. sym (rank-at p h) ∙ ap (rank s r) e ∙ rank-at q l;
         descends =
-            λ p q h l. le-of-not (s (getD (order s r) p 0)) (s (getD (order s r) q 0)) (finite _ (order-below s r few p (omega arith))) (finite _ (order-below s r few q l))
-            (ahead-not-less _ _ (order-ahead few p q h l));
-        stable = λ p q h l e. ahead-index _ _ (order-ahead few p q h l) (not-of-eq (s (getD (order s r) p 0)) (s (getD (order s r) q 0)) e);
+            λ p q h l. le-of-not (s (order s r p)) (s (order s r q)) (finite _ (order-below s r p (omega arith))) (finite _ (order-below s r q l))
+            (ahead-not-less _ _ (order-ahead p q h l));
+        stable = λ p q h l e. ahead-index _ _ (order-ahead p q h l) (not-of-eq (s (order s r p)) (s (order s r q)) e);
       }

@@ -1,19 +1,15 @@
 -- What is said of a call of `svd`: that it is taken, its outcome by document 000's own sweeps, the marks and the limit, and where the cells of both factors stand. Definitions only.
 use mathlib.Core.Path.{_≡_}
 use mathlib.Core.Bool.{cond}
-use mathlib.Core.List.{List}
 use Prim.Native.Nat.{ℕ, _+_, _*_, _≤_}
-use lib.Dec.{ltb, leb}
-use lib.Ieee.{Float}
 use lib.ListN.{length}
-use Rattle.grid.specs.Real.{Vec, at, zeros}
+use Rattle.grid.specs.Real.{Vec, zeros}
 use Rattle.leaves.specs.Finite.{Finite}
 use Rattle.answers.specs.Answers.{passed, least, present, decompositionLength}
 use Rattle.answers.specs.declared.Answer.{Answer}
 use Rattle.svd_jacobi_svd_tall.specs.SingularValues.{normalised}
 use Rattle.svd_theorems.specs.SweepsOutcome.{Whole, Seen2, End, here, Swept}
-use Rattle.svd_sort_svd_descending.specs.Order.{order}
-use Rattle.svd_sort_svd_descending.specs.Result.{longest, workLength, offset, sortedOut}
+use Rattle.svd_sort_svd_descending.specs.Result.{longest, workLength, sortedOut}
 use Rattle.svd.specs.Svd.{loaded, svd}
 
 -- what a call gives: its answer, work and result afterwards
@@ -37,12 +33,12 @@ pub record Taken (m n wantU wantVt limit : ℕ) (matrix work result : Vec) : Typ
 
 -- what the run begins with
 abbrev pub begun : ℕ → ℕ → Vec → Vec
-begun m n matrix = loaded m n matrix (zeros (workLength m n))
+begun m n matrix = loaded m n matrix
 
 -- the outcome, of what the run gave
 unfoldable pub given : ℕ → ℕ → ℕ → ℕ → Answer × Vec → Outcome
 given m n wantU wantVt x =
-    (x .0, zeros (workLength m n), cond (passed (x .0)) (sortedOut m n wantU wantVt (x .1) (zeros (decompositionLength m n wantU wantVt))) (zeros (decompositionLength m n wantU wantVt)))
+    (x .0, zeros (workLength m n), cond (passed (x .0)) (sortedOut m n wantU wantVt (x .1)) (zeros (decompositionLength m n wantU wantVt)))
 
 -- done after c sweeps; stopped by mark 2, where number i of what it looks at is the first that is not finite, and of class a
 pub record Done (m n limit : ℕ) (matrix : Vec) (c : ℕ) : Type 0 where
@@ -62,20 +58,9 @@ pub record Halted (m n limit : ℕ) (matrix : Vec) (e : End) (c : ℕ) : Type 0 
 
 -- ---- the cells of a result
 
--- the order in which the columns come out
-abbrev pub orderOf : ℕ → ℕ → Vec → List ℕ
-orderOf m n w = order (λ j. at w (longest m n * least m n + least m n * least m n + j)) (least m n)
-
 -- U begins behind the r values, V^T behind U
 abbrev pub uCell : ℕ → ℕ → ℕ → ℕ → ℕ
 uCell m n i k = least m n + (i * least m n + k)
 
 abbrev pub vtCell : ℕ → ℕ → ℕ → ℕ → ℕ → ℕ
 vtCell m n wantU k j = least m n + present wantU (m * least m n) + (k * n + j)
-
--- cell (i, p) of the factor of m rows, and cell (j, p) of the factor of n rows: the factor with L rows stands first
-abbrev pub uFactor : ℕ → ℕ → Vec → ℕ → ℕ → Float
-uFactor m n w i p = at w (offset (ltb m n) (longest m n * least m n) + p * m + i)
-
-abbrev pub vFactor : ℕ → ℕ → Vec → ℕ → ℕ → Float
-vFactor m n w j p = at w (offset (leb n m) (longest m n * least m n) + p * n + j)

@@ -5,10 +5,9 @@ use Prim.Native.Nat.{ℕ, _<_}
 use native.Mathlib.Omega.{arith}
 use borrow.Author.Tests.{eq-eqb}
 use lib.Ieee.{le}
-use lib.ListN.{getD, length-replicate}
-use Rattle.grid.specs.Real.{Vec, at, zeros, zero64}
+use Rattle.grid.specs.Real.{Vec, at}
 use Rattle.leaves.specs.Leaf.{isFinite}
-use Rattle.answers.specs.Answers.{least, decompositionLength}
+use Rattle.answers.specs.Answers.{least}
 use Rattle.answers.specs.AnswersLaws.{least-le}
 use Rattle.answers.specs.declared.Answer.{Answer}
 use Rattle.svd_jacobi_svd_tall.specs.JacobiSvdTall.{jacobi}
@@ -16,12 +15,12 @@ use Rattle.svd_theorems.specs.SweepsOutcome.{Whole}
 use Rattle.svd_theorems.specs.SweepsOutcomeLaws.{jacobi-whole, jacobi-plain}
 use Rattle.svd_sort_svd_descending.specs.Order.{order}
 use Rattle.svd_theorems.specs.Order.{order-sorted}
-use Rattle.svd_sort_svd_descending.specs.Result.{longest}
+use Rattle.svd_sort_svd_descending.specs.Result.{longest, valueOf}
+use Rattle.svd_sort_svd_descending.specs.OutLaws.{sorted-values}
 use Rattle.svd.specs.Svd.{svd}
-use Rattle.svd_theorems.specs.Document.{plainWork, valueOf, plainSvd, Sorted}
+use Rattle.svd_theorems.specs.Document.{plainWork, plainSvd, Sorted}
 use Rattle.svd_theorems.specs.Outcome.{Outcome, Promised, Taken, begun, given}
 use Rattle.svd_theorems.specs.OutcomeLaws.{taken-of, begun-long, runs, answer-is}
-use Rattle.svd_theorems.specs.Factors.{sorted-values}
 
 pub svd-one-outcome : (m n wantU wantVt limit : ℕ) (matrix work result : Vec) (x y : Outcome)
     → Promised m n wantU wantVt limit matrix work result x → Promised m n wantU wantVt limit matrix work result y → x ≡ y
@@ -62,12 +61,9 @@ module _ (m n wantU wantVt limit : ℕ) (matrix work result : Vec) (z : svd m n 
   -- so the first r numbers of the result are the values of those columns, and they descend
   pub svd-values : (k : ℕ) → k < least m n
       → at (svd m n wantU wantVt limit matrix work result .2) k
-      ≡ valueOf m n (plainWork m n matrix) (getD (order (valueOf m n (plainWork m n matrix)) (least m n)) k 0)
-  unfolding plainSvd decompositionLength
-  svd-values k h =
-      ap (λ (v : Vec). at v k) svd-plain
-      ∙ sorted-values m n wantU wantVt (plainWork m n matrix) (zeros (decompositionLength m n wantU wantVt))
-      (rw (length-replicate (decompositionLength m n wantU wantVt) zero64) (omega arith)) k h
+      ≡ valueOf m n (plainWork m n matrix) (order (valueOf m n (plainWork m n matrix)) (least m n) k)
+  unfolding plainSvd
+  svd-values k h = ap (λ (v : Vec). at v k) svd-plain ∙ sorted-values m n wantU wantVt (plainWork m n matrix) k h
 
   pub svd-descends : (p q : ℕ) → p < q → q < least m n
       → le (at (svd m n wantU wantVt limit matrix work result .2) q) (at (svd m n wantU wantVt limit matrix work result .2) p) ≡ true

@@ -1,72 +1,62 @@
 -- Where the answer is 0: the cells of U and V^T (`svd-cells-u`, `svd-cells-vt`), so what `vt_row` gives (`vt-row-cells`), and every number of the result is finite (`svd-finite-out`). Laws only.
 use mathlib.Core.Path.{_≡_, refl, ap, _∙_, subst}
 use mathlib.Core.Bool.{Bool, true, false}
-use Prim.Native.Nat.{ℕ, zero, suc, _+_, _*_, _-_, _/_, _%_, _≤_, _<_}
+use Prim.Native.Nat.{ℕ, _+_, _*_, _-_, _/_, _%_, _≤_, _<_}
 use native.Mathlib.Nat.{div-add-mod', mod-lt, div-lt-iff-lt-mul, mul-comm}
-use native.Mathlib.Decide.{ℕ-discrete, decLt}
+use native.Mathlib.Decide.{decLt}
 use native.Mathlib.Omega.{arith}
 use borrow.Author.Tests.{le-leb, lt-ltb, ne-eqb, eq-eqb}
 use lib.Dec.{ltb, leb}
 use lib.Ieee.{nan}
-use lib.ListN.{length, take, drop, getD, length-replicate}
+use lib.ListN.{length, take, drop}
 use lib.Seq.{getD-take, getD-drop}
-use Rattle.grid.specs.Real.{Vec, at, zero64, zeros}
+use Rattle.grid.specs.Real.{Vec, at}
 use Rattle.grid.specs.CellLaws.{cell}
 use Rattle.leaves.specs.Leaf.{isFinite}
 use Rattle.answers.specs.Answers.{least, present, decompositionLength}
-use Rattle.answers.specs.AnswersLaws.{least-le}
-use Rattle.answers.specs.OutcomeLaws.{present-is, present-none}
 use Rattle.svd_theorems.specs.SweepsOutcome.{Whole}
 use Rattle.svd_sort_svd_descending.specs.Rank.{order-below}
 use Rattle.svd.specs.declared.vt_row.Span.{Span}
 use Rattle.svd.specs.declared.vt_row.Span.the-variants.{At}
-use Rattle.svd_sort_svd_descending.specs.Result.{longest, offset, sortedOut}
+use Rattle.svd_sort_svd_descending.specs.Result.{longest, valueOf, uFactor, vFactor, orderOf}
+use Rattle.svd_sort_svd_descending.specs.OutLaws.{offset, sorted-long, sorted-u, sorted-vt, in-part, some}
 use Rattle.svd.specs.Svd.{svd}
-use Rattle.svd.specs.VtRow.{vtAt, rowSpan, partOf}
+use Rattle.svd.specs.VtRow.{rowSpan, partOf}
 use Rattle.svd_sort_svd_descending.specs.ResultSizes.{Side, left-side, right-side}
-use Rattle.svd_theorems.specs.Document.{plainWork, valueOf, plainSvd}
-use Rattle.svd_theorems.specs.Outcome.{Taken, orderOf, uCell, vtCell, uFactor, vFactor}
+use Rattle.svd_theorems.specs.Document.{plainWork, plainSvd}
+use Rattle.svd_theorems.specs.Outcome.{Taken, uCell, vtCell}
 use Rattle.svd_theorems.specs.OutcomeLaws.{taken-of}
-use Rattle.svd_theorems.specs.Factors.{factor-long, sorted-u, sorted-vt}
 use Rattle.svd_theorems.specs.Promise.{svd-plain, worked-whole, svd-values, svd-finite}
 
 module _ (m n wantU wantVt limit : ℕ) (matrix work result : Vec) (z : svd m n wantU wantVt limit matrix work result .0 .answer ≡ 0) where
   taken : Taken m n wantU wantVt limit matrix work result
   taken = taken-of m n wantU wantVt limit matrix work result z
 
-  room : length (zeros (decompositionLength m n wantU wantVt)) ≡ decompositionLength m n wantU wantVt
-  room = length-replicate (decompositionLength m n wantU wantVt) zero64
-
   -- **svd-cells**: cell (i, k) of U is cell (i, order k) of the factor of m rows, and cell (k, j) of V^T cell (j, order k) of the factor of n rows
   pub svd-cells-u : (wantU ≡ 0 → ⊥) → (i k : ℕ) → i < m → k < least m n
-      → at (svd m n wantU wantVt limit matrix work result .2) (uCell m n i k) ≡ uFactor m n (plainWork m n matrix) i (getD (orderOf m n (plainWork m n matrix)) k 0)
+      → at (svd m n wantU wantVt limit matrix work result .2) (uCell m n i k) ≡ uFactor m n (plainWork m n matrix) i (orderOf m n (plainWork m n matrix) k)
   unfolding plainSvd
   svd-cells-u flag i k p q =
-      ap (λ (v : Vec). at v (uCell m n i k)) (svd-plain m n wantU wantVt limit matrix work result z) ∙ sorted-u m n wantU wantVt (plainWork m n matrix) (zeros (decompositionLength m n wantU wantVt)) room flag i k p q
+      ap (λ (v : Vec). at v (uCell m n i k)) (svd-plain m n wantU wantVt limit matrix work result z) ∙ sorted-u m n wantU wantVt (plainWork m n matrix) flag i k p q
 
   pub svd-cells-vt : (wantVt ≡ 0 → ⊥) → (k j : ℕ) → k < least m n → j < n
-      → at (svd m n wantU wantVt limit matrix work result .2) (vtCell m n wantU k j) ≡ vFactor m n (plainWork m n matrix) j (getD (orderOf m n (plainWork m n matrix)) k 0)
+      → at (svd m n wantU wantVt limit matrix work result .2) (vtCell m n wantU k j) ≡ vFactor m n (plainWork m n matrix) j (orderOf m n (plainWork m n matrix) k)
   unfolding plainSvd
   svd-cells-vt flag k j p q =
-      ap (λ (v : Vec). at v (vtCell m n wantU k j)) (svd-plain m n wantU wantVt limit matrix work result z) ∙ sorted-vt m n wantU wantVt (plainWork m n matrix) (zeros (decompositionLength m n wantU wantVt)) room flag k j p q
+      ap (λ (v : Vec). at v (vtCell m n wantU k j)) (svd-plain m n wantU wantVt limit matrix work result z) ∙ sorted-vt m n wantU wantVt (plainWork m n matrix) flag k j p q
 
   pub svd-long : length (svd m n wantU wantVt limit matrix work result .2) ≡ decompositionLength m n wantU wantVt
-  unfolding plainSvd sortedOut
-  svd-long =
-      ap length (svd-plain m n wantU wantVt limit matrix work result z)
-      ∙ factor-long (present wantVt (least m n)) _ n _ 1 n _ _ _
-      ∙ factor-long (present wantU (least m n)) _ m _ (least m n) 1 _ _ _
-      ∙ factor-long (least m n) _ 1 0 1 1 _ _ _
-      ∙ room
+  unfolding plainSvd
+  svd-long = ap length (svd-plain m n wantU wantVt limit matrix work result z) ∙ sorted-long m n wantU wantVt (plainWork m n matrix)
 
   -- **vt-row-cells**: so number j of row k of V^T, the part that `vt_row` gives, is cell (j, order k) of the factor of n rows
   pub vt-row-cells : (wantVt ≡ 0 → ⊥) → (k j : ℕ) → k < least m n → j < n →
       let res = svd m n wantU wantVt limit matrix work result .2 in
-      at (partOf res (rowSpan (length res) m n wantU wantVt k)) j ≡ vFactor m n (plainWork m n matrix) j (getD (orderOf m n (plainWork m n matrix)) k 0)
+      at (partOf res (rowSpan (length res) m n wantU wantVt k)) j ≡ vFactor m n (plainWork m n matrix) j (orderOf m n (plainWork m n matrix) k)
   unfolding rowSpan
   vt-row-cells flag k j p q =
       let res : Vec = svd m n wantU wantVt limit matrix work result .2 in
-      let a : ℕ = vtAt m n wantU + k * n in
+      let a : ℕ = least m n + present wantU (m * least m n) + k * n in
       let there : rowSpan (length res) m n wantU wantVt k ≡ At a (a + n) =
       rw (le-leb m 256 (taken .tall), le-leb n 256 (taken .wide), ne-eqb wantVt 0 flag, lt-ltb k (least m n) p, eq-eqb (length res) (decompositionLength m n wantU wantVt) svd-long) in
       let whole : a + n - a ≡ n = omega arith in
@@ -83,12 +73,9 @@ module _ (m n wantU wantVt limit : ℕ) (matrix work result : Vec) (z : svd m n 
   whole : Whole (longest m n) (least m n) (plainWork m n matrix)
   whole = worked-whole m n wantU wantVt limit matrix work result z
 
-  small : least m n ≤ 256
-  small = least-le m n 256 (taken .tall) (taken .wide)
-
   -- the column that comes to place k
-  column-at : (k : ℕ) → k < least m n → getD (orderOf m n (plainWork m n matrix)) k 0 < least m n
-  column-at k q = order-below (valueOf m n (plainWork m n matrix)) (least m n) small k q
+  column-at : (k : ℕ) → k < least m n → orderOf m n (plainWork m n matrix) k < least m n
+  column-at k q = order-below (valueOf m n (plainWork m n matrix)) (least m n) k q
 
   factor-finite : (t : Bool) (rows i p : ℕ) → Side m n t rows → i < rows → p < least m n
       → isFinite (at (plainWork m n matrix) (offset t (longest m n * least m n) + p * rows + i)) ≡ true
@@ -110,7 +97,7 @@ module _ (m n wantU wantVt limit : ℕ) (matrix work result : Vec) (z : svd m n 
   pub svd-finite-out : (x : ℕ) → x < decompositionLength m n wantU wantVt → isFinite (at (svd m n wantU wantVt limit matrix work result .2) x) ≡ true
   unfolding decompositionLength
   svd-finite-out x l = elim (decLt x r) [
-    | yes h ↦ ap isFinite (svd-values m n wantU wantVt limit matrix work result z x h) ∙ svd-finite m n wantU wantVt limit matrix work result z (getD (orderOf m n (plainWork m n matrix)) x 0) (column-at x h)
+    | yes h ↦ ap isFinite (svd-values m n wantU wantVt limit matrix work result z x h) ∙ svd-finite m n wantU wantVt limit matrix work result z (orderOf m n (plainWork m n matrix) x) (column-at x h)
     | no h ↦ elim (decLt x (r + present wantU (m * r))) [
       | yes g ↦
           let q = in-part wantU (m * r) (x - r) (omega arith) in
@@ -135,18 +122,7 @@ module _ (m n wantU wantVt limit : ℕ) (matrix work result : Vec) (z : svd m n 
       out = svd m n wantU wantVt limit matrix work result .2
 
       u-at : (wantU ≡ 0 → ⊥) → (i k : ℕ) → i < m → k < least m n → isFinite (at out (uCell m n i k)) ≡ true
-      u-at flag i k p q = ap isFinite (svd-cells-u flag i k p q) ∙ u-finite i (getD (orderOf m n (plainWork m n matrix)) k 0) p (column-at k q)
+      u-at flag i k p q = ap isFinite (svd-cells-u flag i k p q) ∙ u-finite i (orderOf m n (plainWork m n matrix) k) p (column-at k q)
 
       vt-at : (wantVt ≡ 0 → ⊥) → (k j : ℕ) → k < least m n → j < n → isFinite (at out (vtCell m n wantU k j)) ≡ true
-      vt-at flag k j p q = ap isFinite (svd-cells-vt flag k j p q) ∙ v-finite j (getD (orderOf m n (plainWork m n matrix)) k 0) q (column-at k p)
-
-      -- a part that has a number is wanted
-      in-part : (flag count y : ℕ) → y < present flag count → (flag ≡ 0 → ⊥) × (y < count)
-      in-part flag count y h = elim (ℕ-discrete flag 0) [
-        | yes e ↦ absurd (omega (arith, present-none flag count e))
-        | no d ↦ (d, subst (λ (t : ℕ). y < t) (present-is flag count d) h)
-      ]
-
-      some : (a b y : ℕ) → y < b * a → 0 < a
-      some zero b y h = absurd (omega arith)
-      some (suc a) b y h = omega arith
+      vt-at flag k j p q = ap isFinite (svd-cells-vt flag k j p q) ∙ v-finite j (orderOf m n (plainWork m n matrix) k) q (column-at k p)

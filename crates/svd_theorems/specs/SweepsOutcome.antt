@@ -1,4 +1,4 @@
--- The scope's sweeps told by document 000's own: each sweep leaves both factors finite, at most `limit` sweeps run, and so many run; or where and why it stops. Definitions only.
+-- The scope's sweeps by document 000's own: each sweep leaves both factors finite, at most `limit` sweeps run, and so many run; or where and why it stops. Definitions only.
 use mathlib.Core.Path.{_≡_}
 use mathlib.Core.Bool.{true, false}
 use Prim.Native.Nat.{ℕ, zero, suc, _+_, _*_, _<_}
@@ -44,9 +44,9 @@ pub data Swept (rows cols : ℕ) : ℕ → ℕ → Vec → End → Vec → Type 
       → Swept rows cols k c (sweep rows cols w .1) e y → Swept rows cols (suc k) (suc c) w e y
 
 -- the four numbers and the work array after a run on w
-pub data Told (rows cols limit : ℕ) (w : Vec) : Answer × Vec → Type 0 where
-  well : {c : ℕ} {y : Vec} → Swept rows cols limit c w here y → Whole rows cols (normalised rows cols y) → Told rows cols limit w (done c, normalised rows cols y)
+pub data RunGives (rows cols limit : ℕ) (w : Vec) : Answer × Vec → Type 0 where
+  well : {c : ℕ} {y : Vec} → Swept rows cols limit c w here y → Whole rows cols (normalised rows cols y) → RunGives rows cols limit w (done c, normalised rows cols y)
   at-mark2 : {c a i : ℕ} {y : Vec} → Swept rows cols limit c w here y → Seen2 rows cols (normalised rows cols y) i a
-      → Told rows cols limit w (answered a 2 i c, normalised rows cols y)
-  at-mark1 : {c a i : ℕ} {y : Vec} → Swept rows cols limit c w (bad a i) y → Told rows cols limit w (answered a 1 i c, y)
-  at-limit : {c : ℕ} {y : Vec} → Swept rows cols limit c w used y → Told rows cols limit w (answered 9 c 0 c, y)
+      → RunGives rows cols limit w (answered a 2 i c, normalised rows cols y)
+  at-mark1 : {c a i : ℕ} {y : Vec} → Swept rows cols limit c w (bad a i) y → RunGives rows cols limit w (answered a 1 i c, y)
+  at-limit : {c : ℕ} {y : Vec} → Swept rows cols limit c w used y → RunGives rows cols limit w (answered 9 c 0 c, y)

@@ -1,4 +1,4 @@
--- What `jacobi` gives is what is told (`told`), one outcome at most is (`told-once`), and the sweeps that settle are document 000's own (`swept-document`). Laws only.
+-- What `jacobi` gives is what the run gives (`run-gives`), which is one outcome at most (`gives-once`), and the sweeps that settle are document 000's own (`swept-document`). Laws only.
 use mathlib.Core.Path.{_≡_, refl, sym, ap, _∙_, subst}
 use mathlib.Core.Logic.{_⊎_, ⊎-elim}
 use mathlib.Core.Bool.{Bool, true, false, cond, not, true≢false}
@@ -28,7 +28,7 @@ use Rattle.svd_jacobi_svd_tall.specs.Sweep.{valueAt, sweep}
 use Rattle.svd_theorems.specs.Document.{plainSweep, unchanged, plainSweeps, plain}
 use Rattle.svd_theorems.specs.Lengths.{rounds-length, normalised-length}
 use Rattle.svd_jacobi_svd_tall.specs.SweepLengths.{sweep-length}
-use Rattle.svd_theorems.specs.SweepsOutcome.{Sound, Whole, Seen1, Seen2, End, here, bad, used, Swept, no-more, stop, once, again, Told, well, at-mark2, at-mark1, at-limit}
+use Rattle.svd_theorems.specs.SweepsOutcome.{Sound, Whole, Seen1, Seen2, End, here, bad, used, Swept, no-more, stop, once, again, RunGives, well, at-mark2, at-mark1, at-limit}
 
 -- ---- the marks
 
@@ -181,29 +181,29 @@ swept-once rows cols (again p s a) (again q t b) = ap next (swept-once rows cols
 abbrev Ended : Type 0
 Ended = Answer × Vec
 
-pub told-once : (rows cols limit : ℕ) (w : Vec) (o p : Ended) → Told rows cols limit w o → Told rows cols limit w p → o ≡ p
+pub gives-once : (rows cols limit : ℕ) (w : Vec) (o p : Ended) → RunGives rows cols limit w o → RunGives rows cols limit w p → o ≡ p
 unfolding code numbers
-told-once rows cols limit w o p (well a f) (well b g) = ap (λ (t : Left). (done (t .0), normalised rows cols (t .2))) (swept-once rows cols a b)
-told-once rows cols limit w o p (well a f) (at-mark2 b g) = absurd (whole-unseen rows cols _ _ _ (subst (λ (y : Vec). Whole rows cols (normalised rows cols y)) (ap (λ (t : Left). t .2) (swept-once rows cols a b)) f) g)
-told-once rows cols limit w o p (well a f) (at-mark1 b) = absurd (omega (arith, ap (λ (t : Left). code (t .1)) (swept-once rows cols a b)))
-told-once rows cols limit w o p (well a f) (at-limit b) = absurd (omega (arith, ap (λ (t : Left). code (t .1)) (swept-once rows cols a b)))
-told-once rows cols limit w o p (at-mark2 a f) (well b g) = absurd (whole-unseen rows cols _ _ _ (subst (λ (y : Vec). Whole rows cols (normalised rows cols y)) (ap (λ (t : Left). t .2) (swept-once rows cols b a)) g) f)
-told-once rows cols limit w o p (at-mark2 {a = k} {i = i} a f) (at-mark2 b g) =
+gives-once rows cols limit w o p (well a f) (well b g) = ap (λ (t : Left). (done (t .0), normalised rows cols (t .2))) (swept-once rows cols a b)
+gives-once rows cols limit w o p (well a f) (at-mark2 b g) = absurd (whole-unseen rows cols _ _ _ (subst (λ (y : Vec). Whole rows cols (normalised rows cols y)) (ap (λ (t : Left). t .2) (swept-once rows cols a b)) f) g)
+gives-once rows cols limit w o p (well a f) (at-mark1 b) = absurd (omega (arith, ap (λ (t : Left). code (t .1)) (swept-once rows cols a b)))
+gives-once rows cols limit w o p (well a f) (at-limit b) = absurd (omega (arith, ap (λ (t : Left). code (t .1)) (swept-once rows cols a b)))
+gives-once rows cols limit w o p (at-mark2 a f) (well b g) = absurd (whole-unseen rows cols _ _ _ (subst (λ (y : Vec). Whole rows cols (normalised rows cols y)) (ap (λ (t : Left). t .2) (swept-once rows cols b a)) g) f)
+gives-once rows cols limit w o p (at-mark2 {a = k} {i = i} a f) (at-mark2 b g) =
     let e = swept-once rows cols a b in
     let q = first-once _ _ _ _ _ _ (subst (λ (y : Vec). Seen2 rows cols (normalised rows cols y) i k) (ap (λ (t : Left). t .2) e) f) g in
     λ j. (marked 2 (e j .0) (q j), normalised rows cols (e j .2))
-told-once rows cols limit w o p (at-mark2 a f) (at-mark1 b) = absurd (omega (arith, ap (λ (t : Left). code (t .1)) (swept-once rows cols a b)))
-told-once rows cols limit w o p (at-mark2 a f) (at-limit b) = absurd (omega (arith, ap (λ (t : Left). code (t .1)) (swept-once rows cols a b)))
-told-once rows cols limit w o p (at-mark1 a) (well b g) = absurd (omega (arith, ap (λ (t : Left). code (t .1)) (swept-once rows cols a b)))
-told-once rows cols limit w o p (at-mark1 a) (at-mark2 b g) = absurd (omega (arith, ap (λ (t : Left). code (t .1)) (swept-once rows cols a b)))
-told-once rows cols limit w o p (at-mark1 a) (at-mark1 b) = ap (λ (t : Left). (numbers (t .1) (t .0), t .2)) (swept-once rows cols a b)
-told-once rows cols limit w o p (at-mark1 a) (at-limit b) = absurd (omega (arith, ap (λ (t : Left). code (t .1)) (swept-once rows cols a b)))
-told-once rows cols limit w o p (at-limit a) (well b g) = absurd (omega (arith, ap (λ (t : Left). code (t .1)) (swept-once rows cols a b)))
-told-once rows cols limit w o p (at-limit a) (at-mark2 b g) = absurd (omega (arith, ap (λ (t : Left). code (t .1)) (swept-once rows cols a b)))
-told-once rows cols limit w o p (at-limit a) (at-mark1 b) = absurd (omega (arith, ap (λ (t : Left). code (t .1)) (swept-once rows cols a b)))
-told-once rows cols limit w o p (at-limit a) (at-limit b) = ap (λ (t : Left). (answered 9 (t .0) 0 (t .0), t .2)) (swept-once rows cols a b)
+gives-once rows cols limit w o p (at-mark2 a f) (at-mark1 b) = absurd (omega (arith, ap (λ (t : Left). code (t .1)) (swept-once rows cols a b)))
+gives-once rows cols limit w o p (at-mark2 a f) (at-limit b) = absurd (omega (arith, ap (λ (t : Left). code (t .1)) (swept-once rows cols a b)))
+gives-once rows cols limit w o p (at-mark1 a) (well b g) = absurd (omega (arith, ap (λ (t : Left). code (t .1)) (swept-once rows cols a b)))
+gives-once rows cols limit w o p (at-mark1 a) (at-mark2 b g) = absurd (omega (arith, ap (λ (t : Left). code (t .1)) (swept-once rows cols a b)))
+gives-once rows cols limit w o p (at-mark1 a) (at-mark1 b) = ap (λ (t : Left). (numbers (t .1) (t .0), t .2)) (swept-once rows cols a b)
+gives-once rows cols limit w o p (at-mark1 a) (at-limit b) = absurd (omega (arith, ap (λ (t : Left). code (t .1)) (swept-once rows cols a b)))
+gives-once rows cols limit w o p (at-limit a) (well b g) = absurd (omega (arith, ap (λ (t : Left). code (t .1)) (swept-once rows cols a b)))
+gives-once rows cols limit w o p (at-limit a) (at-mark2 b g) = absurd (omega (arith, ap (λ (t : Left). code (t .1)) (swept-once rows cols a b)))
+gives-once rows cols limit w o p (at-limit a) (at-mark1 b) = absurd (omega (arith, ap (λ (t : Left). code (t .1)) (swept-once rows cols a b)))
+gives-once rows cols limit w o p (at-limit a) (at-limit b) = ap (λ (t : Left). (answered 9 (t .0) 0 (t .0), t .2)) (swept-once rows cols a b)
 
--- ---- what a run does is told
+-- ---- what a run does is what it gives by `RunGives`
 
 -- a class is not 0 and not 9
 not-done : {x : ℕ → Float} {n i a : ℕ} → First x n i a → a ≡ 0 → ⊥
@@ -282,10 +282,10 @@ module _ (rows cols : ℕ) where
           let w = later (q ∙ ap goingAfter (sym n)) in
           over q (record { c = suc (w .c); e = w .e; swept-to = again f s (w .swept-to); gives = w .gives ∙ ap (numbers (w .e)) (omega arith) })
 
--- **what jacobi gives is what is told**
-pub told : (rows cols limit : ℕ) (w : Vec) → length w ≡ rows * cols + cols * cols + cols → Told rows cols limit w (jacobi rows cols limit w)
+-- **what jacobi gives is what the run gives**
+pub run-gives : (rows cols limit : ℕ) (w : Vec) → length w ≡ rows * cols + cols * cols + cols → RunGives rows cols limit w (jacobi rows cols limit w)
 unfolding jacobi sweeps finished numbers allBad
-told rows cols limit w l = go (a .e) (a .swept-to) (a .gives ∙ ap (numbers (a .e)) (omega arith))
+run-gives rows cols limit w l = go (a .e) (a .swept-to) (a .gives ∙ ap (numbers (a .e)) (omega arith))
   where
     x : Ended
     x = rounds (swept rows cols) ended limit (goingAfter 0, w)
@@ -302,16 +302,16 @@ told rows cols limit w l = go (a .e) (a .swept-to) (a .gives ∙ ap (numbers (a 
     end : Answer → Ended
     end s = cond (passed s) (marked 2 (s .count) (allBad rows cols v), v) (s, x .1)
 
-    settled : Swept rows cols limit (a .c) w here (x .1) → (b : Bad) → allBad rows cols v ≡ b → Told rows cols limit w (marked 2 (a .c) b, v)
+    settled : Swept rows cols limit (a .c) w here (x .1) → (b : Bad) → allBad rows cols v ≡ b → RunGives rows cols limit w (marked 2 (a .c) b, v)
     settled s (At i k) e = at-mark2 s (scan-first _ _ i k e)
     settled s Nowhere e = well s (whole-of rows cols v long (ap isBad e))
 
-    go : (e : End) → Swept rows cols limit (a .c) w e (x .1) → x .0 ≡ numbers e (a .c) → Told rows cols limit w (end (x .0))
-    go here s q = subst (λ (t : Answer). Told rows cols limit w (end t)) (sym q) (settled s (allBad rows cols v) refl)
+    go : (e : End) → Swept rows cols limit (a .c) w e (x .1) → x .0 ≡ numbers e (a .c) → RunGives rows cols limit w (end (x .0))
+    go here s q = subst (λ (t : Answer). RunGives rows cols limit w (end t)) (sym q) (settled s (allBad rows cols v) refl)
     go (bad k i) s q =
-        subst (λ (t : Answer). Told rows cols limit w (end t)) (sym q)
+        subst (λ (t : Answer). RunGives rows cols limit w (end t)) (sym q)
         (rw (ne-eqb k 0 (λ z. ⊎-elim (λ e. omega arith) (λ e. omega arith) (swept-class rows cols s k i refl))) (at-mark1 s))
-    go used s q = subst (λ (t : Answer). Told rows cols limit w (end t)) (sym q) (at-limit s)
+    go used s q = subst (λ (t : Answer). RunGives rows cols limit w (end t)) (sym q) (at-limit s)
 
 -- ---- the sweeps that settle are document 000's own
 
@@ -337,9 +337,9 @@ swept-document rows cols limit c w y h s = sweeps-settle rows cols 60 true h ref
 
 pub jacobi-whole : (rows cols limit : ℕ) (w : Vec) → length w ≡ rows * cols + cols * cols + cols → jacobi rows cols limit w .0 .answer ≡ 0
     → Whole rows cols (jacobi rows cols limit w .1)
-jacobi-whole rows cols limit w l = go (jacobi rows cols limit w) (told rows cols limit w l)
+jacobi-whole rows cols limit w l = go (jacobi rows cols limit w) (run-gives rows cols limit w l)
   where
-    go : (o : Ended) → Told rows cols limit w o → o .0 .answer ≡ 0 → Whole rows cols (o .1)
+    go : (o : Ended) → RunGives rows cols limit w o → o .0 .answer ≡ 0 → Whole rows cols (o .1)
     go o (well s f) z = f
     go o (at-mark2 s f) z = absurd (not-done f z)
     go o (at-mark1 {a = k} {i = i} s) z = absurd (⊎-elim (λ e. omega arith) (λ e. omega arith) (swept-class rows cols s k i refl))
@@ -349,9 +349,9 @@ jacobi-whole rows cols limit w l = go (jacobi rows cols limit w) (told rows cols
 pub jacobi-plain : (rows cols limit : ℕ) (w : Vec) → length w ≡ rows * cols + cols * cols + cols → limit ≤ 60 → jacobi rows cols limit w .0 .answer ≡ 0
     → jacobi rows cols limit w .1 ≡ plain rows cols w
 unfolding plain
-jacobi-plain rows cols limit w l h = go (jacobi rows cols limit w) (told rows cols limit w l)
+jacobi-plain rows cols limit w l h = go (jacobi rows cols limit w) (run-gives rows cols limit w l)
   where
-    go : (o : Ended) → Told rows cols limit w o → o .0 .answer ≡ 0 → o .1 ≡ normalised rows cols (plainSweeps rows cols w .1)
+    go : (o : Ended) → RunGives rows cols limit w o → o .0 .answer ≡ 0 → o .1 ≡ normalised rows cols (plainSweeps rows cols w .1)
     go o (well {y = y} s f) z = ap (normalised rows cols) (sym (swept-document rows cols limit _ w y h s))
     go o (at-mark2 s f) z = absurd (not-done f z)
     go o (at-mark1 {a = k} {i = i} s) z = absurd (⊎-elim (λ e. omega arith) (λ e. omega arith) (swept-class rows cols s k i refl))

@@ -3,8 +3,9 @@ use mathlib.Core.Path.{_≡_, sym, ap, _∙_}
 use Prim.Native.Nat.{ℕ, _+_, _≤_, _<_}
 use native.Mathlib.Omega.{arith}
 use borrow.Author.Tests.{leb-true, lt-ltb, le-ltb, ne-eqb}
+use lib.Dec.{leb}
 use lib.ListN.{getD, set}
-use Rattle.tally_definition.specs.Tallies.{smallAt, small, refusal, next, outcome}
+use Rattle.tally_definition.specs.Tallies.{small, refusal, next, outcome}
 use Rattle.tally_definition.specs.TallyLaws.{Taken}
 use Rattle.grid.specs.LoopLaws.{every-at}
 use Rattle.tally_definition.specs.declared.Tally.{Tally}
@@ -12,7 +13,7 @@ use Rattle.tally_definition.specs.declared.Reply.{Reply}
 
 pub count-small : (t : Tally) (answer passes : ℕ) → Taken t answer passes → getD (t .counts) answer 0 ≤ 65536
 unfolding small
-count-small t answer passes w = leb-true (getD (t .counts) answer 0) 65536 (every-at (smallAt (t .counts)) 16 answer (w .each) (omega arith))
+count-small t answer passes w = leb-true (getD (t .counts) answer 0) 65536 (every-at (λ a. leb (getD (t .counts) a 0) 65536) 16 answer (w .each) (omega arith))
 
 abbrev pub reply : ℕ → Tally → Reply
 reply r t = record { refusal = r; tally = t }

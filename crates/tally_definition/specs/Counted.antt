@@ -12,7 +12,7 @@ use lib.Dec.{ltb, leb, eqb}
 use lib.ListN.{length, getD, set, take, length-append, length-set, List·getD-append}
 use lib.Seq.{ext-getD, getD-at, getD-set-same, getD-set-other}
 use Rattle.tally_definition.specs.Figures.{Tile, count, table, counts, total, larger, most, place, first, good, goods, accepted}
-use Rattle.tally_definition.specs.Tallies.{smallAt, small, fit, first-of, refusal, next, outcome, zeros, none}
+use Rattle.tally_definition.specs.Tallies.{small, fit, refusal, next, outcome, none}
 use Rattle.tally_definition.specs.Series.{figures, series, takenOf}
 use Rattle.tally_definition.specs.TallyLaws.{Taken, takes}
 use Rattle.grid.specs.LoopLaws.{below-cases, both, every-all}
@@ -227,13 +227,13 @@ room l x s h a p =
       sum = omega (arith, total-bound l s);
       top = most-bound l s;
       place = omega (arith, place-bound (most l) l);
-      each = every-all (smallAt (counts l)) 16
+      each = every-all (λ a. leb (getD (counts l) a 0) 65536) 16
           (λ i g. le-leb (getD (counts l) i 0) 65536 (rw (table-at (λ k. count k l) 16 i g) (omega (arith, count-bound i l))));
     }
 
 -- the answers to a tile that comes after a list of tiles
 pub wide : (t : Tally) (x : Tile) → good x ≡ false → refusal t (x .answer) (x .passes) ≡ 38
-unfolding refusal first-of
+unfolding refusal
 wide t x e = rw e
 
 pub in-range : (x : Tile) → good x ≡ true → (x .answer ≤ 15) × (x .passes ≤ 15360)
@@ -242,7 +242,7 @@ in-range x e =
     (leb-true (x .answer) 15 (w .0), leb-true (x .passes) 15360 (w .1))
 
 pub full : (t : Tally) (x : Tile) → good x ≡ true → 65536 ≤ t .tiles → refusal t (x .answer) (x .passes) ≡ 36
-unfolding refusal first-of fit
+unfolding refusal fit
 full t x e h = rw (e, le-ltb (t .tiles) 65536 h)
 
 pub free : (l : List Tile) (x : Tile) → Short l → length l < 65536 → good x ≡ true → refusal (figures l) (x .answer) (x .passes) ≡ 0
@@ -279,7 +279,7 @@ series-is (x ∷ s) l n h e = go (good x) refl n e (series-is s l) (series-is s 
         ∙ ap figures (append-assoc l (x ∷ []) (take n (goods s)))
 
 none-is : none ≡ figures []
-unfolding none zeros table count total most first place
+unfolding none table count total most first place
 none-is = refl
 
 -- THE THEOREM: after any series from the empty tally each figure is the one counted from the list of the tiles that were added

@@ -1,33 +1,25 @@
 -- What adding a tile does to a tally, for every tally and numbers. Definitions only.
 use mathlib.Core.Bool.{Bool, cond, _&&_}
-use mathlib.Core.List.{List, [], _∷_, _++_}
-use Prim.Native.Nat.{ℕ, zero, suc, _+_}
+use mathlib.Core.List.{List}
+use Prim.Native.Nat.{ℕ, _+_}
 use lib.Dec.{ltb, leb, eqb}
-use lib.ListN.{getD, set}
+use lib.ListN.{getD, set, replicate}
 use Rattle.grid.specs.Loop.{every}
 use Rattle.tally_definition.specs.Figures.{inRange}
 use Rattle.tally_definition.specs.declared.Tally.{Tally}
 use Rattle.tally_definition.specs.declared.Reply.{Reply}
 
--- the count of answer a is at most 65,536
-abbrev pub smallAt : List ℕ → ℕ → Bool
-smallAt counts a = leb (getD counts a 0) 65536
-
 -- the counts of all answers, 0 to 15, are at most 65,536
 unfoldable pub small : List ℕ → Bool
-small counts = every (smallAt counts) 16
+small counts = every (λ a. leb (getD counts a 0) 65536) 16
 
 -- the tally has room for a tile more, and no figure that no series gives
 unfoldable pub fit : Tally → Bool
 fit t = ltb (t .tiles) 65536 && (leb (t .passes) 1006632960 && (leb (t .most) 15360 && (leb (t .first) 65535 && small (t .counts))))
 
--- 38, a number of the tile's is out of range; then 36, the tally isn't fit; else 0
-unfoldable pub first-of : Bool → Bool → ℕ
-first-of inside room = cond inside (cond room 0 36) 38
-
--- what adding this tile is refused with, or 0
+-- what adding this tile is refused with: 38, a number of it is out of range; then 36, the tally isn't fit; else 0
 unfoldable pub refusal : Tally → ℕ → ℕ → ℕ
-refusal t answer passes = first-of (inRange answer passes) (fit t)
+refusal t answer passes = cond (inRange answer passes) (cond (fit t) 0 36) 38
 
 -- the tally with one tile more. Only more passes than any tile before take the lead: a first tile of 0 passes leads at place 0, as none does
 unfoldable pub next : Tally → ℕ → ℕ → Tally
@@ -45,9 +37,5 @@ unfoldable pub outcome : Tally → ℕ → ℕ → Reply
 outcome t answer passes = record { refusal = refusal t answer passes; tally = cond (eqb (refusal t answer passes) 0) (next t answer passes) t }
 
 -- no tile
-unfoldable pub zeros : ℕ → List ℕ
-zeros zero = []
-zeros (suc m) = zeros m ++ (0 ∷ [])
-
 unfoldable pub none : Tally
-none = record { tiles = 0; counts = zeros 16; passes = 0; most = 0; first = 0 }
+none = record { tiles = 0; counts = replicate 16 0; passes = 0; most = 0; first = 0 }

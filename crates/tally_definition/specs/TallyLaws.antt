@@ -1,13 +1,13 @@
 -- What holds where a tile is taken. Laws only.
 use mathlib.Core.Path.{_≡_, refl}
-use mathlib.Core.Bool.{Bool, true, false}
+use mathlib.Core.Bool.{Bool, true, false, cond}
 use Prim.Native.Nat.{ℕ, _≤_, _<_}
 use native.Mathlib.Omega.{arith}
 use borrow.Author.Tests.{ltb-true, leb-true, lt-ltb, le-leb}
 use lib.Dec.{ltb, leb}
 use Rattle.grid.specs.LoopLaws.{both}
 use Rattle.tally_definition.specs.Figures.{inRange}
-use Rattle.tally_definition.specs.Tallies.{small, fit, first-of, refusal}
+use Rattle.tally_definition.specs.Tallies.{small, fit, refusal}
 use Rattle.tally_definition.specs.declared.Tally.{Tally}
 
 pub record Taken (t : Tally) (answer passes : ℕ) : Type 0 where
@@ -20,8 +20,7 @@ pub record Taken (t : Tally) (answer passes : ℕ) : Type 0 where
   pub each : small (t .counts) ≡ true
 
 -- 0 comes where both hold
-neither : (b c : Bool) → first-of b c ≡ 0 → (b ≡ true) × (c ≡ true)
-unfolding first-of
+neither : (b c : Bool) → _≡_ {A = ℕ} (cond b (cond c 0 36) 38) 0 → (b ≡ true) × (c ≡ true)
 neither true true e = (refl, refl)
 neither true false e = absurd (omega arith)
 neither false true e = absurd (omega arith)
@@ -47,7 +46,7 @@ taken t answer passes e =
     }
 
 pub takes : (t : Tally) (answer passes : ℕ) → Taken t answer passes → refusal t answer passes ≡ 0
-unfolding refusal first-of fit
+unfolding refusal fit
 takes t answer passes w =
     rw (
       le-leb answer 15 (w .answers),

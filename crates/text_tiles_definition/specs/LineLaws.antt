@@ -1,4 +1,4 @@
--- T32, of the text: every text has its tiles, up to where the series ends (`told`), those alone (`one-series`), and is read as them: the tally that it leaves holds the figures of those tiles (`tallied-series`, `tallied-figures`). Laws only.
+-- T32, of the text: every text has its tiles, up to where the series ends (`starts`), those alone (`one-series`), and is read as them: the tally that it leaves holds the figures of those tiles (`tallied-series`, `tallied-figures`). Laws only.
 use mathlib.Core.Path.{_≡_, refl, sym, ap, _∙_, subst}
 use mathlib.Core.Bool.{Bool, true, false, cond, _&&_, true≢false}
 use mathlib.Core.List.{List, [], _∷_, _++_, append-nil, append-assoc}
@@ -15,7 +15,7 @@ use Rattle.tally_definition.specs.TallyLaws.{taken}
 use Rattle.tally_definition.specs.Counted.{counted-taken}
 use Rattle.tally_definition.specs.declared.Tally.{Tally}
 use Rattle.text_tiles_definition.specs.declared.Series.{Series}
-use Rattle.text_tiles_definition.specs.Lines.{line, lines, state, fresh, ended, endOf, mostOf, grown, digit, closed, step, run, tallied, Takes, Stops, Told, Reads}
+use Rattle.text_tiles_definition.specs.Lines.{line, lines, state, fresh, ended, endOf, mostOf, grown, digit, closed, step, run, tallied, Takes, Stops, StartsWith, Reads}
 use Rattle.text_tiles_definition.specs.DecimalLaws.{dec, number-is, dec-low, dec-more}
 use Rattle.text_tiles_definition.specs.StepLaws.{ended-stays, run-grows, most-low, step-end, step-digit, step-other, grown-on, grown-over, digit-on, digit-ends, tile-taken, tile-refused, line-run, line-one}
 
@@ -171,10 +171,10 @@ no-more t l u e h r x v z q =
     let d : run (fresh s′) v .tally .tiles ≡ s .tiles = ap (λ (y : Tally). y .tiles) (sym a ∙ r) in
     omega arith
 
-pub told : (t : List ℕ) → Reads t
-told t =
+pub starts : (t : List ℕ) → Reads t
+starts t =
     let r = find t none 0 0 false 0 begin in
-    record { tiles = r .tiles; told = record { rest = r .rest; text = r .text; taken = r .took; stops = no-more t (r .tiles) (r .rest) (r .text) (r .took) (r .left) } }
+    record { tiles = r .tiles; starts = record { rest = r .rest; text = r .text; taken = r .took; stops = no-more t (r .tiles) (r .rest) (r .text) (r .took) (r .left) } }
 
 -- what stops a series leaves its tally
 stopped : (t : Tally) (u : List ℕ) → Stops t u → run (fresh t) u .tally ≡ t
@@ -185,7 +185,7 @@ stopped t u h = let r = find u t 0 0 false 0 begin in go (r .tiles) (r .rest) (r
     go [] w e k r = r
     go (x ∷ l) w e k r = absurd (h x (lines l ++ w) (k .0) (e ∙ append-assoc (line x) (lines l) w))
 
-pub tallied-series : (t : List ℕ) (l : List Tile) → Told t l → tallied t ≡ series none l
+pub tallied-series : (t : List ℕ) (l : List Tile) → StartsWith t l → tallied t ≡ series none l
 tallied-series t l d =
     ap tallied (d .text) ∙ ap (λ (s : Series). s .tally) (lines-run l none (d .rest) (d .taken)) ∙ stopped (series none l) (d .rest) (d .stops)
 
@@ -194,7 +194,7 @@ unfolding Takes takenOf
 takes-all [] t h = refl
 takes-all (x ∷ l) t h = rw (h .0) (ap (λ (m : List Tile). x ∷ m) (takes-all l (outcome t (x .answer) (x .passes) .tally) (h .1)))
 
-pub tallied-figures : (t : List ℕ) (l : List Tile) → Told t l → tallied t ≡ figures l
+pub tallied-figures : (t : List ℕ) (l : List Tile) → StartsWith t l → tallied t ≡ figures l
 tallied-figures t l d = tallied-series t l d ∙ counted-taken l ∙ ap figures (takes-all l none (d .taken))
 
 -- ---- a text has no other tiles
@@ -210,5 +210,5 @@ same (x ∷ l) (y ∷ m) t u v a b c d e =
     let j : Stops (series (outcome t (x .answer) (x .passes) .tally) m) v = subst (λ (z : Tile). Stops (series (outcome t (z .answer) (z .passes) .tally) m) v) (sym (w .0)) d in
     ap (λ (z : Tile). z ∷ l) (w .0) ∙ ap (λ (z : List Tile). y ∷ z) (same l m (outcome t (x .answer) (x .passes) .tally) u v (a .1) i c j (w .1))
 
-pub one-series : (t : List ℕ) (l m : List Tile) → Told t l → Told t m → l ≡ m
+pub one-series : (t : List ℕ) (l m : List Tile) → StartsWith t l → StartsWith t m → l ≡ m
 one-series t l m d e = same l m none (d .rest) (e .rest) (d .taken) (e .taken) (d .stops) (e .stops) (sym (d .text) ∙ e .text)

@@ -108,7 +108,7 @@ abbrev pub Stops : Tally → List ℕ → Type 0
 Stops t u = (x : Tile) (v : List ℕ) → refusal t (x .answer) (x .passes) ≡ 0 → u ≡ line x ++ v → ⊥
 
 -- a text is the lines of these tiles, none of which is refused, and then something else
-pub record Told (t : List ℕ) (l : List Tile) : Type 0 where
+pub record StartsWith (t : List ℕ) (l : List Tile) : Type 0 where
   pub rest : List ℕ
   pub text : t ≡ lines l ++ rest
   pub taken : Takes none l
@@ -117,4 +117,4 @@ pub record Told (t : List ℕ) (l : List Tile) : Type 0 where
 -- the tiles of a text
 pub record Reads (t : List ℕ) : Type 0 where
   pub tiles : List Tile
-  pub told : Told t tiles
+  pub starts : StartsWith t tiles

@@ -54,7 +54,6 @@ use Rattle.lanczos_pairs.specs.TridiagonalEigen as td
 use Rattle.lanczos.specs.Checks as lc
 use Rattle.lanczos.specs.Run as lr
 use Rattle.lanczos.specs.Lanczos as lz
-use Rattle.eigen_steps.specs.Prepare as rd
 use Rattle.eigen_tql2_step.specs.SkipSettled as se
 use Rattle.eigen_tql2_step.specs.Advance as mc
 use Rattle.eigen_tql2_step.specs.Checks as rc
@@ -110,7 +109,7 @@ ones n = replicate n one64
 
 -- a call gives these numbers: (four numbers, work, result)
 unfoldable pub given : Row → List ℕ
-unfolding ofBits toBits number bits of-bits add sub mul div neg lt le eq ne lo.seek lo.first lo.times lo.upto lo.down lo.rounds lo.drops lo.fall ta.table ta.rows ro.whole ro.rootOf ro.root le.magnitude le.larger le.isFinite le.hypotOf le.hypot sc.classOf sc.scan sc.placeOf sc.lowerOf sc.firstBadLower sc.byRows an.least an.present an.decompositionLength tr.scaleOf tr.skipRow tr.overScale tr.clear tr.against tr.generate tr.similarColumn tr.similarity tr.overH tr.lessen tr.updateColumn tr.updates tr.reflect tr.skip tr.reduce tr.householder tr.reduction tr.columnOver tr.columnDot tr.takeOff tr.turnColumns tr.clearColumn tr.apply tr.accumulate tr.accumulation tr.copyLast tr.moveLast tr.tred2 hy.hypot2 hy.rootOfSum ed.pythag tf.signed tf.shift tf.lessened tf.rotated tf.spin tf.spins tf.landed tf.transformed pa.mark1 pa.settled pa.verdict pa.pass ql.movedUp te.split te.opened tu.iterated te.closed tu.stage tu.turn tu.run st.leastFrom st.swapped st.sortStep st.sorted qe.mark2 qe.qlFinished ql.tql2 la.copyRow la.columns la.mirrorRow la.rows af.mark0 af.afterTred ei.decomposed ei.given ei.eigenEntered ei.eigen sw.gram sw.skipped sw.rotationOf sw.rotated sw.pairDone sw.pairsOf sw.sweep va.normSq va.divided va.normalStep va.normalised ja.verdict ja.swept ja.sweeps ja.finished ja.jacobi so.rank so.noted so.order re.longest re.workLength re.columnOut re.factorOut re.sortedOut sv.source sv.columnLoaded sv.matrixLoaded sv.eyed sv.loaded sv.checks sv.ran sv.svd sn.columnSum sn.coefficient sn.solution iv.inverse iv.pinvSum iv.inverted sl.solveChecks sl.inverseChecks sl.looked sl.solve sl.pseudoInverse gr.dot gr.lessened gr.lessColumns gr.lessColumnsTwice gr.norm un.over un.normalised un.putColumn un.finished qr.column qr.columns qr.checks qr.qrQ ch.limitGood ch.editionGood ch.fittingEdition ch.toleranceGood ch.lengths ch.fitting ma.factorsBad ma.allBad ofInt ti.tri mv.product mv.added mv.without rh.againstAll rh.twice sa.level sa.started en.stepEnded kr.recurred kr.kept kr.step kr.stepIfOn kr.steps ri.ritz ri.levelled ri.pair ri.pairs ld.looked ld.selected td.inward lc.size lc.workLength lc.checks lr.paired lr.solved lr.ran lz.lanczosEntered lz.lanczos recorded rd.readied se.onward se.skipped se.foundL mc.undecided mc.decided mc.step rc.inRange rc.sound rc.checked lt.setting lt.closedUp sp.begun sp.startEntered sp.started sp.moved sp.stepped
+unfolding ofBits toBits number bits of-bits add sub mul div neg lt le eq ne lo.seek lo.first lo.times lo.upto lo.down lo.rounds lo.drops lo.fall ta.table ta.rows ro.whole ro.rootOf ro.root le.magnitude le.larger le.isFinite le.hypotOf le.hypot sc.classOf sc.scan sc.placeOf sc.lowerOf sc.firstBadLower sc.byRows an.least an.present an.decompositionLength tr.scaleOf tr.skipRow tr.overScale tr.clear tr.against tr.generate tr.similarColumn tr.similarity tr.overH tr.lessen tr.updateColumn tr.updates tr.reflect tr.skip tr.reduce tr.householder tr.reduction tr.columnOver tr.columnDot tr.takeOff tr.turnColumns tr.clearColumn tr.apply tr.accumulate tr.accumulation tr.copyLast tr.moveLast tr.tred2 hy.hypot2 hy.rootOfSum ed.pythag tf.signed tf.shift tf.lessened tf.rotated tf.spin tf.spins tf.landed tf.transformed pa.mark1 pa.settled pa.verdict pa.pass ql.movedUp te.split te.opened tu.iterated te.closed tu.stage tu.turn tu.run st.leastFrom st.swapped st.sortStep st.sorted qe.mark2 qe.qlFinished ql.tql2 la.columns af.mark0 af.afterTred ei.decomposed ei.given ei.eigenEntered ei.eigen sw.gram sw.skipped sw.rotationOf sw.rotated sw.pairDone sw.pairsOf sw.sweep va.normSq va.divided va.normalStep va.normalised ja.verdict ja.swept ja.sweeps ja.finished ja.jacobi so.rank so.order re.longest re.workLength re.sortedOut sv.source sv.loaded sv.checks sv.ran sv.svd sn.columnSum sn.coefficient sn.solution iv.inverse iv.pinvSum iv.inverted sl.solveChecks sl.inverseChecks sl.looked sl.solve sl.pseudoInverse gr.dot gr.lessened gr.lessColumns gr.lessColumnsTwice gr.norm un.over un.normalised un.putColumn un.finished qr.column qr.columns qr.checks qr.qrQ ch.limitGood ch.editionGood ch.fittingEdition ch.toleranceGood ch.lengths ch.fitting ma.factorsBad ma.allBad ofInt ti.tri mv.product mv.added mv.without rh.twice sa.started en.stepEnded kr.recurred kr.step kr.steps ri.ritz ri.levelled ri.pair ri.pairs ld.looked ld.selected td.inward lc.size lc.workLength lc.checks lr.paired lr.solved lr.ran lz.lanczos recorded se.skipped se.foundL mc.step rc.inRange rc.sound rc.checked lt.closedUp sp.begun sp.startEntered sp.started sp.moved sp.stepped
 given (root x r) = toBits binary64 (ro.root (number x)) ∷ []
 given (hypot x y r) = toBits binary64 (le.hypot (number x) (number y)) ∷ []
 given (eigen n matrix answer place index count result) =

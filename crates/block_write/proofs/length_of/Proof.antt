@@ -5,8 +5,8 @@ use native.Mathlib.Omega.{arith}
 use borrow.Author.Needs.{needs}
 use borrow.Author.Tests.{eq-eqb, ne-eqb}
 use Rattle.block_read.specs.CheckLaws.{dimensions-good}
-use Rattle.block_write.specs.Writing.{lengthOf, checked}
-use Rattle.block_write.specs.PutLaws.{taken-checked}
+use Rattle.block_write.specs.Writing.{checked}
+use Rattle.block_write.specs.PutLaws.{taken-checked, length-by}
 use Rattle.block_write.proofs.length_of.Statement.{statement}
 use Rattle.block_write.proofs.length_of.Tie as tie
 
@@ -14,8 +14,8 @@ dimensions-requires : tie.Need-dimensions-requires
 dimensions-requires c κs = search needs
 
 returns : tie.Need-returns
-unfolding lengthOf checked
-returns c = rw (← c .before .dimensions .ensures, ne-eqb _ _ (c .if1 .taken), ne-eqb _ _ (c .if1 .taken))
+unfolding checked
+returns c = rw (length-by (c .before .before .args .rows) (c .before .before .args .columns) (c .before .before .args .count) (c .before .before .args .k1) (c .before .before .args .k2) (c .before .before .args .k3), ← c .before .dimensions .ensures, ne-eqb _ _ (c .if1 .taken), ne-eqb _ _ (c .if1 .taken))
 
 size-requires : tie.Need-size-requires
 size-requires c κs = omega (arith, dimensions-good (c .before .before .args .rows) (c .before .before .args .columns) (c .before .before .args .count) (sym (c .before .dimensions .ensures) ∙ c .if1 .left))
@@ -30,15 +30,13 @@ checked-requires : tie.Need-checked-requires
 checked-requires c κs = search needs
 
 returns-2 : tie.Need-returns-2
-unfolding lengthOf
-returns-2 c = rw (← c .before .before .before .before .size .ensures, ← c .before .before .before .size2 .ensures, ← c .before .before .size3 .ensures, ← c .before .checked .ensures, ne-eqb _ _ (c .if2 .taken))
+returns-2 c = rw (length-by (c .before .before .before .before .before .before .before .args .rows) (c .before .before .before .before .before .before .before .args .columns) (c .before .before .before .before .before .before .before .args .count) (c .before .before .before .before .before .before .before .args .k1) (c .before .before .before .before .before .before .before .args .k2) (c .before .before .before .before .before .before .before .args .k3), ← c .before .before .before .before .size .ensures, ← c .before .before .before .size2 .ensures, ← c .before .before .size3 .ensures, ← c .before .checked .ensures, ne-eqb _ _ (c .if2 .taken))
 
 length-with-requires : tie.Need-length-with-requires
 length-with-requires c κs = omega (arith, taken-checked (c .before .before .before .before .before .before .before .args .rows) (c .before .before .before .before .before .before .before .args .columns) (c .before .before .before .before .before .before .before .args .count) (c .before .before .before .before .before .before .before .args .k1) (c .before .before .before .before .size .result) (c .before .before .before .before .before .before .before .args .k2) (c .before .before .before .size2 .result) (c .before .before .before .before .before .before .before .args .k3) (c .before .before .size3 .result) (sym (c .before .checked .ensures) ∙ c .if2 .left) .sized, taken-checked (c .before .before .before .before .before .before .before .args .rows) (c .before .before .before .before .before .before .before .args .columns) (c .before .before .before .before .before .before .before .args .count) (c .before .before .before .before .before .before .before .args .k1) (c .before .before .before .before .size .result) (c .before .before .before .before .before .before .before .args .k2) (c .before .before .before .size2 .result) (c .before .before .before .before .before .before .before .args .k3) (c .before .before .size3 .result) (sym (c .before .checked .ensures) ∙ c .if2 .left) .most)
 
 returns-3 : tie.Need-returns-3
-unfolding lengthOf
-returns-3 c = rw (← c .before .before .before .before .before .size .ensures, ← c .before .before .before .before .size2 .ensures, ← c .before .before .before .size3 .ensures, ← c .before .before .checked .ensures, eq-eqb _ _ (c .before .if2 .left)) (c .length-with .ensures)
+returns-3 c = rw (length-by (c .before .before .before .before .before .before .before .before .args .rows) (c .before .before .before .before .before .before .before .before .args .columns) (c .before .before .before .before .before .before .before .before .args .count) (c .before .before .before .before .before .before .before .before .args .k1) (c .before .before .before .before .before .before .before .before .args .k2) (c .before .before .before .before .before .before .before .before .args .k3), ← c .before .before .before .before .before .size .ensures, ← c .before .before .before .before .size2 .ensures, ← c .before .before .before .size3 .ensures, ← c .before .before .checked .ensures, eq-eqb _ _ (c .before .if2 .left)) (c .length-with .ensures)
 
 pub length-of-spec : {M : Type 1} → statement M
 length-of-spec =

@@ -1,8 +1,7 @@
 -- Generated from the answers file beside it by tools/prove/prove.py: edit that.
 -- `block_write::length_with` meets its contract.
 use native.Mathlib.Omega.{arith}
-use Rattle.block_write.specs.Writing.{bytesOf, lengthWith}
-use Rattle.block_write.specs.PutLaws.{bytes-one, bytes-two, bytes-three, given-none, given-one, given-two, given-three}
+use Rattle.block_write.specs.PutLaws.{bytesOf, lengthWith, bytes-one, bytes-two, bytes-three, given-none, given-one, given-two, given-three}
 use Rattle.block_write.proofs.length_with.Statement.{statement}
 use Rattle.block_write.proofs.length_with.Tie as tie
 

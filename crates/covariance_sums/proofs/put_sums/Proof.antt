@@ -9,13 +9,14 @@ use Rattle.grid.specs.Table.{table}
 use Rattle.grid.specs.TableLaws.{row-end, table-none, table-more, table-done}
 use Rattle.covariance.specs.SampleSums.{total}
 use Rattle.covariance.specs.BandParts.{band-long, band-is}
-use Rattle.covariance_sums.specs.Sums.{sumAt, sumsOf}
+use Rattle.covariance_sums.specs.Sums.{sumOf, sumsOf}
+use lib.Ieee.{binary64, ofInt}
 use Rattle.covariance_sums.specs.SumsLaws.{sum-fits, sum-float}
 use Rattle.covariance_sums.proofs.put_sums.Statement.{statement}
 use Rattle.covariance_sums.proofs.put_sums.Tie as tie
 
 abbrev Inv-loop : tie.InvT-loop
-Inv-loop n count samples out₀ j₀ out j = (j ≤ n) × (length out ≡ length out₀) × (take j out ≡ table (sumAt samples count) j)
+Inv-loop n count samples out₀ j₀ out j = (j ≤ n) × (length out ≡ length out₀) × (take j out ≡ table (λ x. ofInt binary64 (sumOf samples count x)) j)
 
 abbrev μ-loop : tie.MeasureT-loop
 μ-loop n count samples out₀ j₀ out j = n - j
@@ -60,7 +61,7 @@ loop-less : tie.Need-loop-less Inv-loop μ-loop
 loop-less c = omega (arith, row-end (c .before .before .before .before .before .before .before .before .before .before .args .n) (c .before .before .before .before .before .before .before .before .before .before .args .count) (c .before .before .before .before .before .before .before .before .loop .j) (omega arith))
 
 loop-again : tie.Need-loop-again Inv-loop μ-loop
-loop-again c = (omega arith, omega arith, rw (c .before .before .put1 .ensures) (table-more (sumAt (c .before .before .before .before .before .before .before .before .before .before .args .samples .now) (c .before .before .before .before .before .before .before .before .before .before .args .count)) (c .before .before .before .before .before .before .before .before .loop .out) (c .before .before .before .before .before .before .before .before .loop .j) (omega arith) (c .before .before .before .before .before .before .before .before .loop .inv .2) (sum-float (c .before .before .before .before .before .before .before .before .before .before .args .count) (c .before .before .before .before .total .result) (omega arith) (c .before .before .before .before .total .ensures .1) (c .before .before .before .before .total .ensures .0 ∙ ap (total (c .before .before .before .before .before .before .before .before .before .before .args .count)) (band-is (c .before .before .before .before .before .before .before .before .before .before .args .samples .now) (c .before .before .before .before .before .before .before .before .before .before .args .count) (c .before .before .before .before .before .before .before .before .loop .j))) (c .before .before .before .float-of .ensures))))
+loop-again c = (omega arith, omega arith, rw (c .before .before .put1 .ensures) (table-more (λ x. ofInt binary64 (sumOf (c .before .before .before .before .before .before .before .before .before .before .args .samples .now) (c .before .before .before .before .before .before .before .before .before .before .args .count) x)) (c .before .before .before .before .before .before .before .before .loop .out) (c .before .before .before .before .before .before .before .before .loop .j) (omega arith) (c .before .before .before .before .before .before .before .before .loop .inv .2) (sum-float (c .before .before .before .before .before .before .before .before .before .before .args .count) (c .before .before .before .before .total .result) (omega arith) (c .before .before .before .before .total .ensures .1) (c .before .before .before .before .total .ensures .0 ∙ ap (total (c .before .before .before .before .before .before .before .before .before .before .args .count)) (band-is (c .before .before .before .before .before .before .before .before .before .before .args .samples .now) (c .before .before .before .before .before .before .before .before .before .before .args .count) (c .before .before .before .before .before .before .before .before .loop .j))) (c .before .before .before .float-of .ensures))))
 
 same-length : tie.Need-same-length Inv-loop μ-loop
 same-length c = omega arith

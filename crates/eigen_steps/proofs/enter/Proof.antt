@@ -6,8 +6,8 @@ use borrow.Author.Needs.{needs}
 use borrow.Author.Tests.{eq-eqb, ne-eqb}
 use denote.Ref.{now}
 use Rattle.grid.specs.Real.{zeros}
-use Rattle.eigen_steps.specs.Steps.{newRun, startEntered}
-use Rattle.eigen_steps.specs.StepsLaws.{cleared-start}
+use Rattle.eigen_steps.specs.Steps.{startEntered}
+use Rattle.eigen_steps.specs.StepsLaws.{newRun, cleared-start}
 use Rattle.eigen_steps.proofs.enter.Statement.{statement}
 use Rattle.eigen_steps.proofs.enter.Tie as tie
 

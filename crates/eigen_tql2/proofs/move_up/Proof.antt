@@ -7,7 +7,8 @@ use borrow.Author.Needs.{needs}
 use lib.ListN.{length}
 use Rattle.grid.specs.Loop.{upto}
 use Rattle.grid.specs.LoopLaws.{start, next, done}
-use Rattle.eigen_tql2.specs.Tql2.{upStep, movedUp}
+use Rattle.eigen_tql2.specs.Tql2.{movedUp}
+use Rattle.eigen_tql2.specs.Tql2Steps.{upStep}
 use Rattle.eigen_tql2.proofs.move_up.Statement.{statement}
 use Rattle.eigen_tql2.proofs.move_up.Tie as tie
 

@@ -3,7 +3,6 @@
 use native.Mathlib.Omega.{arith}
 use borrow.Author.Needs.{needs}
 use mathlib.Core.List.{[]}
-use Rattle.eigen_tql2_step.specs.Advance.{decided}
 use Rattle.eigen_tql2_step.specs.SkipSettledLaws.{closed-at}
 use Rattle.eigen_tql2_step.proofs.decide.Statement.{statement}
 use Rattle.eigen_tql2_step.proofs.decide.Tie as tie
@@ -12,7 +11,6 @@ undecided-requires : tie.Need-undecided-requires
 undecided-requires c κs = search needs
 
 returns : tie.Need-returns
-unfolding decided
 returns c = λ v. rw (← c .before .undecided .ensures, c .if1 .taken)
 
 close-requires : tie.Need-close-requires
@@ -28,7 +26,6 @@ same-length-2 : tie.Need-same-length-2
 same-length-2 c = omega arith
 
 returns-2 : tie.Need-returns-2
-unfolding decided
 returns-2 c = λ v. rw (← c .before .before .before .before .before .before .before .before .before .undecided .ensures, c .before .before .before .before .before .before .before .before .if1 .left, ← c .before .before .before .before .before .close .ensures v, c .onward .ensures)
 
 pub decide-spec : {M : Type 1} → statement M

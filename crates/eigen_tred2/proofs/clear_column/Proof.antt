@@ -7,7 +7,8 @@ use borrow.Author.Needs.{needs}
 use lib.ListN.{length}
 use Rattle.grid.specs.Loop.{upto}
 use Rattle.grid.specs.LoopLaws.{start, next, done}
-use Rattle.eigen_tred2_definition.specs.Tred2.{clearColumnStep, clearColumn}
+use Rattle.eigen_tred2_definition.specs.Tred2.{clearColumn}
+use Rattle.eigen_tred2_definition.specs.Tred2Steps.{clearColumnStep}
 use Rattle.eigen_tred2.proofs.clear_column.Statement.{statement}
 use Rattle.eigen_tred2.proofs.clear_column.Tie as tie
 

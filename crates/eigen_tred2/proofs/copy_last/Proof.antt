@@ -7,7 +7,8 @@ use borrow.Author.Needs.{needs}
 use lib.ListN.{length}
 use Rattle.grid.specs.Loop.{upto}
 use Rattle.grid.specs.LoopLaws.{start, next, done}
-use Rattle.eigen_tred2_definition.specs.Tred2.{copyLastStep, copyLast}
+use Rattle.eigen_tred2_definition.specs.Tred2.{copyLast}
+use Rattle.eigen_tred2_definition.specs.Tred2Steps.{copyLastStep}
 use Rattle.eigen_tred2.proofs.copy_last.Statement.{statement}
 use Rattle.eigen_tred2.proofs.copy_last.Tie as tie
 

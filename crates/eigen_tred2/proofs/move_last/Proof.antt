@@ -7,7 +7,8 @@ use borrow.Author.Needs.{needs}
 use lib.ListN.{length}
 use Rattle.grid.specs.Loop.{upto}
 use Rattle.grid.specs.LoopLaws.{start, next, done}
-use Rattle.eigen_tred2_definition.specs.Tred2.{moveStep, moveLast}
+use Rattle.eigen_tred2_definition.specs.Tred2.{moveLast}
+use Rattle.eigen_tred2_definition.specs.Tred2Steps.{moveStep}
 use Rattle.eigen_tred2.proofs.move_last.Statement.{statement}
 use Rattle.eigen_tred2.proofs.move_last.Tie as tie
 

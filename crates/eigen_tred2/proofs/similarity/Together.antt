@@ -12,7 +12,8 @@ use Rattle.grid.specs.LoopLaws.{upto-more, upto-both, upto-keeps, upto-same, st
 use Rattle.grid.specs.Real.{Vec, at, _⊕_, _⊗_}
 use Rattle.grid.specs.Cell.{at2, put2}
 use Rattle.grid.specs.CellLaws.{put-elsewhere, upto-long}
-use Rattle.eigen_tred2_definition.specs.Tred2.{similarStep, similarColumn, similarityStep}
+use Rattle.eigen_tred2_definition.specs.Tred2.{similarColumn}
+use Rattle.eigen_tred2_definition.specs.Tred2Steps.{similarStep, similarityStep}
 use Rattle.eigen_tred2.specs.ColumnPairs.{sums, twoStep, twoColumns, pairStep}
 use Rattle.eigen_tred2.specs.declared.column_pairs.Pair.{Pair}
 

@@ -10,7 +10,8 @@ use Rattle.grid.specs.LoopLaws.{upto-both, upto-keeps, upto-same, start, more}
 use Rattle.grid.specs.Real.{Vec, zero64, _⊕_, _⊗_}
 use Rattle.grid.specs.Cell.{at2}
 use Rattle.grid.specs.CellLaws.{put-elsewhere}
-use Rattle.eigen_tred2_definition.specs.Tred2.{columnDotStep, columnDot, takeStep, takeOff, turnColumnStep}
+use Rattle.eigen_tred2_definition.specs.Tred2.{columnDot, takeOff}
+use Rattle.eigen_tred2_definition.specs.Tred2Steps.{columnDotStep, takeStep, turnColumnStep}
 use Rattle.eigen_tred2.specs.FourColumns.{dots, fourTurns}
 use Rattle.eigen_tred2.specs.declared.turn_columns.Four.{Four}
 

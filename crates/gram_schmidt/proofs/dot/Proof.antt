@@ -6,13 +6,13 @@ use native.Mathlib.Omega.{arith}
 use borrow.Author.Needs.{needs}
 use Rattle.grid.specs.Loop.{upto}
 use Rattle.grid.specs.LoopLaws.{start, next, done}
-use Rattle.gram_schmidt.specs.Gram.{dotStep, dot}
-use Rattle.grid.specs.Real.{zero64}
+use Rattle.gram_schmidt.specs.Gram.{dot}
+use Rattle.grid.specs.Real.{zero64, _⊕_, _⊗_, at}
 use Rattle.gram_schmidt.proofs.dot.Statement.{statement}
 use Rattle.gram_schmidt.proofs.dot.Tie as tie
 
 abbrev Inv-loop : tie.InvT-loop
-Inv-loop m b c acc₀ row₀ acc row = (row ≤ m) × (acc ≡ upto (dotStep b c) 0 row zero64)
+Inv-loop m b c acc₀ row₀ acc row = (row ≤ m) × (acc ≡ upto (λ row acc. acc ⊕ at b row ⊗ at c row) 0 row zero64)
 
 abbrev μ-loop : tie.MeasureT-loop
 μ-loop m b c acc₀ row₀ acc row = m - row

@@ -7,12 +7,12 @@ use borrow.Author.Needs.{needs}
 use lib.ListN.{length}
 use Rattle.grid.specs.Loop.{upto}
 use Rattle.grid.specs.LoopLaws.{start, next, done}
-use Rattle.gram_schmidt.specs.Gram.{lessColumn, lessColumns}
+use Rattle.gram_schmidt.specs.Gram.{lessColumns, columnOf, dot, lessened}
 use Rattle.gram_schmidt.proofs.less_columns.Statement.{statement}
 use Rattle.gram_schmidt.proofs.less_columns.Tie as tie
 
 abbrev Inv-loop : tie.InvT-loop
-Inv-loop m k j q b₀ c₀ i₀ b c i = (i ≤ j) × (length b ≡ length b₀) × (length c ≡ length c₀) × (c ≡ upto (lessColumn m k q) 0 i c₀)
+Inv-loop m k j q b₀ c₀ i₀ b c i = (i ≤ j) × (length b ≡ length b₀) × (length c ≡ length c₀) × (c ≡ upto (λ i c. lessened m (dot m (columnOf m k q i) c) (columnOf m k q i) c) 0 i c₀)
 
 abbrev μ-loop : tie.MeasureT-loop
 μ-loop m k j q b₀ c₀ i₀ b c i = j - i

@@ -4,15 +4,16 @@ use mathlib.Core.Path.{_≡_, refl}
 use Prim.Native.Nat.{_-_, _≤_}
 use native.Mathlib.Omega.{arith}
 use borrow.Author.Needs.{needs}
-use lib.ListN.{length}
+use lib.ListN.{length, set}
 use Rattle.grid.specs.Loop.{upto}
 use Rattle.grid.specs.LoopLaws.{start, next, done}
-use Rattle.gram_schmidt.specs.Gram.{lessStep, lessened}
+use Rattle.grid.specs.Real.{at, _⊖_, _⊗_}
+use Rattle.gram_schmidt.specs.Gram.{lessened}
 use Rattle.gram_schmidt.proofs.lessen.Statement.{statement}
 use Rattle.gram_schmidt.proofs.lessen.Tie as tie
 
 abbrev Inv-loop : tie.InvT-loop
-Inv-loop m proj b c₀ row₀ c row = (row ≤ m) × (length c ≡ length c₀) × (c ≡ upto (lessStep proj b) 0 row c₀)
+Inv-loop m proj b c₀ row₀ c row = (row ≤ m) × (length c ≡ length c₀) × (c ≡ upto (λ row c. set c row (at c row ⊖ proj ⊗ at b row)) 0 row c₀)
 
 abbrev μ-loop : tie.MeasureT-loop
 μ-loop m proj b c₀ row₀ c row = m - row

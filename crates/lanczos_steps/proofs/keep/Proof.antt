@@ -3,7 +3,6 @@
 use Prim.Native.Nat.{_+_, _*_}
 use native.Mathlib.Omega.{arith}
 use borrow.Author.Needs.{needs}
-use Rattle.lanczos_steps.specs.Krylov.{kept}
 use Rattle.grid.specs.TableLaws.{row-end, length-part}
 use denote.Ref.{now}
 use Rattle.lanczos_steps.proofs.keep.Statement.{statement}
@@ -49,7 +48,6 @@ same-length-2 : tie.Need-same-length-2
 same-length-2 c = omega arith
 
 returns : tie.Need-returns
-unfolding kept
 returns c = rw (← c .before .before .before .before .before .norm .ensures, ← c .before .before .end .ensures, c .before .before .before .before .before .before .before .before .copy .ensures)
 
 pub keep-spec : {M : Type 1} → statement M

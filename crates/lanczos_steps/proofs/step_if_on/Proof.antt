@@ -1,13 +1,11 @@
 -- Generated from the answers file beside it by tools/prove/prove.py: edit that.
 -- `lanczos_steps::step_if_on` meets its contract.
 use native.Mathlib.Omega.{arith}
-use Rattle.lanczos_steps.specs.Krylov.{stepIfOn}
 use borrow.Author.Tests.{not-true, not-false}
 use Rattle.lanczos_steps.proofs.step_if_on.Statement.{statement}
 use Rattle.lanczos_steps.proofs.step_if_on.Tie as tie
 
 returns : tie.Need-returns
-unfolding stepIfOn
 returns c = rw (not-true (c .before .before .before .before .before .before .args .r .on) (c .if1 .taken))
 
 step-requires : tie.Need-step-requires
@@ -23,7 +21,6 @@ same-length-3 : tie.Need-same-length-3
 same-length-3 c = omega arith
 
 returns-2 : tie.Need-returns-2
-unfolding stepIfOn
 returns-2 c = rw (not-false (c .before .before .before .before .before .before .before .before .before .before .before .before .before .before .before .before .before .before .args .r .on) (c .before .before .before .before .before .before .before .before .before .before .before .before .if1 .left)) (c .before .before .before .before .before .before .step .ensures)
 
 pub step-if-on-spec : {M : Type 1} → statement M

@@ -9,26 +9,27 @@ use Rattle.grid.specs.Loop.{upto}
 use Rattle.grid.specs.LoopLaws.{start, next, done}
 use mathlib.Core.Bool.{true}
 use Rattle.answers.specs.Answers as Answers
-use Rattle.matvec.specs.Symmetry.{Mirror}
+use Rattle.matvec.specs.Symmetry.{Symmetric}
 use Rattle.lanczos_steps.specs.StepEnd.{went}
-use Rattle.lanczos_steps.specs.Krylov.{stepIfOn, steps}
+use Rattle.lanczos_steps.specs.Krylov.{steps}
+use Rattle.lanczos_steps.specs.KrylovLaws.{stepIfOn}
 use Rattle.lanczos_steps.proofs.steps.Statement.{statement}
 use Rattle.lanczos_steps.proofs.steps.Tie as tie
 
 abbrev Inv-loop : tie.InvT-loop
-Inv-loop n s a q₀ al₀ be₀ v₀ w₀ mirror r₀ j₀ q al be v w r j = (j ≤ s) × (length q ≡ length q₀) × (length v ≡ length v₀) × (length w ≡ length w₀) × (mirror ≡ true → Mirror n a) × ((r, q, al, be, v) ≡ upto (stepIfOn n a) 0 j (went true (Answers.done 0) 0, q₀, al₀, be₀, v₀))
+Inv-loop n s a q₀ al₀ be₀ v₀ w₀ symmetric r₀ j₀ q al be v w r j = (j ≤ s) × (length q ≡ length q₀) × (length v ≡ length v₀) × (length w ≡ length w₀) × (symmetric ≡ true → Symmetric n a) × ((r, q, al, be, v) ≡ upto (stepIfOn n a) 0 j (went true (Answers.done 0) 0, q₀, al₀, be₀, v₀))
 
 abbrev μ-loop : tie.MeasureT-loop
-μ-loop n s a q₀ al₀ be₀ v₀ w₀ mirror r₀ j₀ q al be v w r j = s - j
+μ-loop n s a q₀ al₀ be₀ v₀ w₀ symmetric r₀ j₀ q al be v w r j = s - j
 
-mirrored-requires : tie.Need-mirrored-requires Inv-loop μ-loop
-mirrored-requires c κs = search needs
+is-symmetric-requires : tie.Need-is-symmetric-requires Inv-loop μ-loop
+is-symmetric-requires c κs = search needs
 
 done-requires : tie.Need-done-requires Inv-loop μ-loop
 done-requires c κs = search needs
 
 loop-holds : tie.Need-loop-holds Inv-loop μ-loop
-loop-holds c = (omega arith, refl, refl, refl, λ e. c .before .mirrored .ensures .0 e .1, rw (c .done .ensures) (start _ _ _))
+loop-holds c = (omega arith, refl, refl, refl, λ e. c .before .is-symmetric .ensures .0 e .1, rw (c .done .ensures) (start _ _ _))
 
 step-if-on-requires : tie.Need-step-if-on-requires Inv-loop μ-loop
 step-if-on-requires c κs = (omega arith, omega arith, omega arith, c .before .before .before .before .before .before .loop .inv .4, omega arith, omega arith, omega arith, omega arith)
@@ -61,7 +62,7 @@ steps-spec =
     (tie.spec
     Inv-loop
     μ-loop
-    mirrored-requires
+    is-symmetric-requires
     done-requires
     loop-holds
     step-if-on-requires

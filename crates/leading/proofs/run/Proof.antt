@@ -14,7 +14,8 @@ use Rattle.grid.specs.TableLaws.{length-part}
 use Rattle.answers.specs.Answers.{done}
 use Rattle.answers.specs.declared.Answer.{Answer}
 use Rattle.gram_schmidt.specs.Gram.{columnOf}
-use Rattle.leading.specs.Leading.{led, given}
+use Rattle.leading.specs.Leading.{led}
+use Rattle.leading.specs.Result.{given}
 use denote.Ref.{now}
 use Rattle.leading.proofs.run.Statement.{statement}
 use Rattle.leading.proofs.run.Tie as tie

@@ -13,8 +13,8 @@ use Rattle.grid.specs.Real.{Vec, at, zero64}
 use Rattle.leaves.specs.Leaf.{isFinite}
 use Rattle.leaves.specs.Finite.{Finite}
 use Rattle.leaves.specs.FiniteLaws.{finite-rows, allStep, allFinite}
-use Rattle.leaves.specs.Scan.{firstBad, lowerOf, lowerAt, placeOf, firstBadLower, byRows}
-use Rattle.leaves.specs.ScanLaws.{scan-fine, firstBad-fine}
+use Rattle.leaves.specs.Scan.{firstBad, firstBadLower, byRows, placeOf, lowerOf}
+use Rattle.leaves.specs.ScanLaws.{scan-fine, firstBad-fine, lowerAt, lower-is}
 use Rattle.leaves.specs.declared.Bad.the-variants.{Nowhere}
 use Rattle.leaves.specs.declared.Place.{Place}
 
@@ -41,8 +41,7 @@ lower-fine p x h = go (leb (p .j) (p .i))
     go false = refl
 
 pub none-below : (n : ℕ) (a : Vec) {b : Bool} → b ≡ allFinite a → b ≡ true → Nowhere ≡ firstBadLower n a
-unfolding firstBadLower
-none-below n a e t = sym (scan-fine (lowerAt n a) (length a) (λ k l. lower-fine (placeOf n k) (at a k) (all-fine a (sym e ∙ t) k l)))
+none-below n a e t = sym (scan-fine (lowerAt n a) (length a) (λ k l. lower-fine (placeOf n k) (at a k) (all-fine a (sym e ∙ t) k l))) ∙ lower-is n a
 
 pub none-inside : (cols : ℕ) (v : Vec) {b : Bool} → b ≡ allFinite v → b ≡ true → Nowhere ≡ firstBad (byRows cols v)
 none-inside cols v e t = sym (firstBad-fine (byRows cols v) (finite-rows cols v (all-fine v (sym e ∙ t))))

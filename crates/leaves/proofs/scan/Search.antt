@@ -12,8 +12,8 @@ use Rattle.grid.specs.Real.{Vec}
 use Rattle.grid.specs.CellLaws.{cell}
 use lib.Ieee.{Float}
 use Rattle.leaves.specs.Leaf.{isFinite}
-use Rattle.leaves.specs.Scan.{classOf, scan, placeOf, cellAt}
-use Rattle.leaves.specs.ScanLaws.{after, firstBadOf}
+use Rattle.leaves.specs.Scan.{classOf, scan, placeOf}
+use Rattle.leaves.specs.ScanLaws.{after, cellAt, firstBadOf}
 use Rattle.leaves.specs.declared.Bad.the-variants.{At, Nowhere}
 use Rattle.leaves.specs.declared.Place.{Place}
 

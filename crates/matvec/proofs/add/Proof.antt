@@ -4,15 +4,16 @@ use mathlib.Core.Path.{_≡_, refl}
 use Prim.Native.Nat.{_-_, _≤_}
 use native.Mathlib.Omega.{arith}
 use borrow.Author.Needs.{needs}
-use lib.ListN.{length}
+use lib.ListN.{length, set}
 use Rattle.grid.specs.Loop.{upto}
 use Rattle.grid.specs.LoopLaws.{start, next, done}
-use Rattle.matvec.specs.Matvec.{addStep, added}
+use Rattle.grid.specs.Real.{at, _⊕_, _⊗_}
+use Rattle.matvec.specs.Matvec.{added}
 use Rattle.matvec.proofs.add.Statement.{statement}
 use Rattle.matvec.proofs.add.Tie as tie
 
 abbrev Inv-loop : tie.InvT-loop
-Inv-loop n f u w₀ i₀ w i = (i ≤ n) × (length w ≡ length w₀) × (w ≡ upto (addStep f u) 0 i w₀)
+Inv-loop n f u w₀ i₀ w i = (i ≤ n) × (length w ≡ length w₀) × (w ≡ upto (λ i w. set w i (at w i ⊕ f ⊗ at u i)) 0 i w₀)
 
 abbrev μ-loop : tie.MeasureT-loop
 μ-loop n f u w₀ i₀ w i = n - i

@@ -4,19 +4,18 @@ use mathlib.Core.Path.{_≡_, refl}
 use Prim.Native.Nat.{_-_, _≤_}
 use native.Mathlib.Omega.{arith}
 use borrow.Author.Needs.{needs}
-use lib.ListN.{length}
+use lib.ListN.{length, set}
 use Rattle.grid.specs.Loop.{upto}
 use Rattle.grid.specs.LoopLaws.{start, next}
-use Rattle.gram_schmidt.specs.Gram.{dotStep}
-use Rattle.grid.specs.Real.{zero64}
-use Rattle.matvec.specs.Matvec.{addStep, added}
+use Rattle.grid.specs.Real.{zero64, _⊕_, _⊗_, at}
+use Rattle.matvec.specs.Matvec.{added}
 use Rattle.matvec.specs.Rows.{at-turn, add-dot-done}
 use denote.Ref.{now}
 use Rattle.matvec.proofs.add_dot.Statement.{statement}
 use Rattle.matvec.proofs.add_dot.Tie as tie
 
 abbrev Inv-loop : tie.InvT-loop
-Inv-loop n f u w₀ t acc₀ i₀ w acc i = (i ≤ n) × (length w ≡ length w₀) × (w ≡ upto (addStep f u) 0 i w₀) × (acc ≡ upto (dotStep (added n f u w₀) t) 0 i zero64)
+Inv-loop n f u w₀ t acc₀ i₀ w acc i = (i ≤ n) × (length w ≡ length w₀) × (w ≡ upto (λ i w. set w i (at w i ⊕ f ⊗ at u i)) 0 i w₀) × (acc ≡ upto (λ row acc. acc ⊕ at (added n f u w₀) row ⊗ at t row) 0 i zero64)
 
 abbrev μ-loop : tie.MeasureT-loop
 μ-loop n f u w₀ t acc₀ i₀ w acc i = n - i

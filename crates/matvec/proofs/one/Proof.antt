@@ -6,7 +6,7 @@ use native.Mathlib.Omega.{arith}
 use borrow.Author.Needs.{needs}
 use Rattle.grid.specs.Loop.{upto}
 use Rattle.grid.specs.LoopLaws.{start, next, done}
-use Rattle.matvec.specs.Matvec.{rowStep}
+use Rattle.matvec.specs.Rows.{rowStep}
 use Rattle.grid.specs.Real.{Vec, zero64}
 use lib.Ieee.{Float}
 use lib.ListN.{set}

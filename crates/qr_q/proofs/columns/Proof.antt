@@ -10,7 +10,8 @@ use Rattle.grid.specs.LoopLaws.{start, next, done}
 use Rattle.answers.specs.Answers.{answered}
 use borrow.Author.Tests.{eq-eqb, ne-eqb}
 use denote.Ref.{now}
-use Rattle.qr_q.specs.QrQ.{columnStep, columns}
+use Rattle.qr_q.specs.QrQ.{columns}
+use Rattle.qr_q.specs.Result.{columnStep}
 use Rattle.qr_q.proofs.Early.{stays}
 use Rattle.qr_q.proofs.columns.Statement.{statement}
 use Rattle.qr_q.proofs.columns.Tie as tie

@@ -7,7 +7,7 @@ use borrow.Author.Needs.{needs}
 use lib.ListN.{length}
 use Rattle.grid.specs.Loop.{upto}
 use Rattle.grid.specs.LoopLaws.{start, next, done}
-use Rattle.svd.specs.Svd.{loadStep, columnLoaded}
+use Rattle.svd.specs.LoadedLaws.{loadStep, columnLoaded}
 use Rattle.svd.proofs.load_column.Statement.{statement}
 use Rattle.svd.proofs.load_column.Tie as tie
 

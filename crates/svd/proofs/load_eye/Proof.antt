@@ -7,7 +7,7 @@ use lib.ListN.{length}
 use Rattle.grid.specs.Loop.{upto}
 use Rattle.grid.specs.LoopLaws.{start, next, done}
 use Rattle.grid.specs.TableLaws.{row-end}
-use Rattle.svd.specs.Svd.{eyeStep, eyed}
+use Rattle.svd.specs.LoadedLaws.{eyeStep, eyed}
 use Rattle.svd.proofs.load_eye.Statement.{statement}
 use Rattle.svd.proofs.load_eye.Tie as tie
 

@@ -9,7 +9,7 @@ use Rattle.grid.specs.LoopLaws.{start, next, done}
 use Rattle.svd_jacobi_svd_tall.specs.SweepLengths.{Sized}
 use native.Mathlib.Nat.{mul-comm}
 use Rattle.grid.specs.TableLaws.{row-end}
-use Rattle.svd.specs.Svd.{columnLoaded, matrixLoaded}
+use Rattle.svd.specs.LoadedLaws.{columnLoaded, matrixLoaded}
 use Rattle.svd.proofs.load_matrix.Statement.{statement}
 use Rattle.svd.proofs.load_matrix.Tie as tie
 

@@ -10,7 +10,7 @@ use Rattle.grid.specs.Real.{Vec, zeros}
 use Rattle.answers.specs.Answers.{least}
 use Rattle.svd_jacobi_svd_tall.specs.SweepLengths.{Sized}
 use Rattle.svd_sort_svd_descending.specs.Result.{longest}
-use Rattle.svd.specs.Svd.{loaded, ran}
+use Rattle.svd.specs.LoadedLaws.{loadedIn, ranIn}
 use Rattle.svd_sort_svd_descending.specs.ResultSizes.{Checked}
 use Rattle.svd.specs.Sizes.{sized}
 use Rattle.svd.proofs.run.Statement.{statement}
@@ -49,7 +49,7 @@ same-length-2 : tie.Need-same-length-2
 same-length-2 c = search needs
 
 returns : tie.Need-returns
-unfolding ran loaded
+unfolding ranIn loadedIn
 returns c = let same : length (c .before .before .before .before .before .before .before .before .before .before .before .jacobi .last .1 .1 .1 .0) ≡ length (now (c .before .before .before .before .before .before .before .before .before .before .before .before .before .before .before .before .before .before .before .before .before .before .before .before .before .before .args .w)) = omega arith in let cleared : _ ≡ zeros (length (c .before .before .before .before .before .before .before .before .before .before .before .jacobi .last .1 .1 .1 .0)) = c .before .before .fill .ensures in rw (← c .before .before .before .before .before .before .before .before .before .before .before .before .before .before .before .before .before .before .before .before .before .before .longest .ensures, ← c .before .before .before .before .before .before .before .before .before .before .before .before .before .before .before .before .before .before .before .before .before .least .ensures, ← c .before .before .before .before .before .before .before .before .before .before .before .before .before .before .before .before .before .before .before .load-matrix .ensures, ← c .before .before .before .before .before .before .before .before .before .before .before .before .before .before .before .load-eye .ensures, ← c .before .before .before .before .before .before .before .before .before .before .before .jacobi .ensures, ← c .before .before .before .before .before .before .hand-over .ensures, ← same, ← cleared)
 
 pub run-spec : {M : Type 1} → statement M

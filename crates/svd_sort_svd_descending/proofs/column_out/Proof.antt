@@ -6,7 +6,7 @@ use native.Mathlib.Omega.{arith}
 use lib.ListN.{length}
 use Rattle.grid.specs.Loop.{upto, down}
 use Rattle.grid.specs.LoopLaws.{start, next, done}
-use Rattle.svd_sort_svd_descending.specs.Result.{cellStep, columnOut}
+use Rattle.svd_sort_svd_descending.specs.OutLaws.{cellStep, columnOut}
 use Rattle.svd_sort_svd_descending.proofs.column_out.Statement.{statement}
 use Rattle.svd_sort_svd_descending.proofs.column_out.Tie as tie
 

@@ -6,7 +6,7 @@ use native.Mathlib.Omega.{arith}
 use lib.ListN.{length}
 use Rattle.grid.specs.Loop.{upto, down}
 use Rattle.grid.specs.LoopLaws.{start, next, done}
-use Rattle.svd_sort_svd_descending.specs.Result.{sortStep, factorOut}
+use Rattle.svd_sort_svd_descending.specs.OutLaws.{sortStep, factorOut}
 use Rattle.grid.specs.TableLaws.{row-end}
 use Rattle.svd_sort_svd_descending.proofs.factor_out.Statement.{statement}
 use Rattle.svd_sort_svd_descending.proofs.factor_out.Tie as tie

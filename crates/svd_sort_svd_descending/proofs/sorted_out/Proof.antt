@@ -1,6 +1,6 @@
 -- Generated from the answers file beside it by tools/prove/prove.py: edit that.
 -- `svd_sort_svd_descending::sorted_out` meets its contract.
-use mathlib.Core.Path.{_≡_}
+use mathlib.Core.Path.{_≡_, _∙_}
 use Prim.Native.Nat.{ℕ, _≤_}
 use native.Mathlib.Omega.{arith}
 use borrow.Author.Needs.{needs}
@@ -8,18 +8,21 @@ use denote.Ref.{now}
 use mathlib.Core.List.{List}
 use lib.Ieee.{Float}
 use lib.ListN.{replicate}
+use Rattle.grid.specs.Real.{Vec}
 use Rattle.answers.specs.Answers.{least}
 use Rattle.answers.specs.AnswersLaws.{least-le}
-use Rattle.svd_sort_svd_descending.specs.Order.{noted, order}
-use Rattle.svd_sort_svd_descending.specs.Rank.{Below, order-below}
+use Rattle.svd_sort_svd_descending.specs.Rank.{Below, noted, noted-below}
 use Rattle.svd_sort_svd_descending.specs.Result.{sortedOut}
-use Rattle.svd_sort_svd_descending.specs.ResultSizes.{spaces, values-out, left-out, right-out}
+use Rattle.svd_sort_svd_descending.specs.OutLaws.{outOf, out-sorted}
+use Rattle.svd_sort_svd_descending.specs.ResultSizes.{Checked, spaces, values-out, left-out, right-out}
 use Rattle.svd_sort_svd_descending.proofs.sorted_out.Statement.{statement}
 use Rattle.svd_sort_svd_descending.proofs.sorted_out.Tie as tie
 
 named : (s : ℕ → Float) (m n r : ℕ) (o : List ℕ) → m ≤ 256 → n ≤ 256 → r ≡ least m n → o ≡ noted s r (replicate 256 0) → Below (least m n) o
-unfolding order
-named s m n r o p q e g = rw (g, e) (order-below s (least m n) (least-le m n 256 p q))
+named s m n r o p q e g = rw (g, e) (noted-below s (least m n) (least-le m n 256 p q))
+
+whole : (m n wantU wantVt : ℕ) (w res : Vec) {z : Vec} → Checked m n wantU wantVt w res → z ≡ outOf m n wantU wantVt w res → z ≡ sortedOut m n wantU wantVt w
+whole m n wantU wantVt w res c e = e ∙ out-sorted m n wantU wantVt w res (least-le m n 256 (c .tall) (c .wide)) (c .results)
 
 least-requires : tie.Need-least-requires
 least-requires c κs = search needs
@@ -73,8 +76,8 @@ same-length : tie.Need-same-length
 same-length c = search needs
 
 returns : tie.Need-returns
-unfolding sortedOut order
-returns c = rw (← c .before .before .before .before .before .before .before .before .before .before .before .before .before .before .before .before .before .before .before .before .before .before .before .least .ensures, ← c .before .before .before .before .before .before .before .before .before .before .before .before .before .before .before .before .before .before .before .before .before .before .longest .ensures, ← c .before .before .before .before .before .before .before .before .before .before .before .before .before .before .before .before .before .before .before .before .note .ensures, ← c .before .before .before .before .before .before .before .before .before .before .before .before .before .before .before .before .before .factor-out .ensures, ← c .before .before .before .before .before .before .before .before .before .before .before .before .before .before .offset .ensures, ← c .before .before .before .before .before .before .before .before .before .before .before .before .before .present .ensures, ← c .before .before .before .before .before .before .before .before .before .before .factor-out2 .ensures, ← c .before .before .before .before .before .before .before .offset2 .ensures, ← c .before .before .before .before .before .before .present2 .ensures, ← c .before .before .before .before .before .present3 .ensures) (c .before .before .factor-out3 .ensures)
+unfolding outOf
+returns c = whole (c .before .before .before .before .before .before .before .before .before .before .before .before .before .before .before .before .before .before .before .before .before .before .before .before .before .before .args .m) (c .before .before .before .before .before .before .before .before .before .before .before .before .before .before .before .before .before .before .before .before .before .before .before .before .before .before .args .n) (c .before .before .before .before .before .before .before .before .before .before .before .before .before .before .before .before .before .before .before .before .before .before .before .before .before .before .args .want-u) (c .before .before .before .before .before .before .before .before .before .before .before .before .before .before .before .before .before .before .before .before .before .before .before .before .before .before .args .want-vt) (now (c .before .before .before .before .before .before .before .before .before .before .before .before .before .before .before .before .before .before .before .before .before .before .before .before .before .before .args .w)) (now (c .before .before .before .before .before .before .before .before .before .before .before .before .before .before .before .before .before .before .before .before .before .before .before .before .before .before .args .res)) (c .before .before .before .before .before .before .before .before .before .before .before .before .before .before .before .before .before .before .before .before .before .before .before .before .before .before .pre) (rw (← c .before .before .before .before .before .before .before .before .before .before .before .before .before .before .before .before .before .before .before .before .before .before .before .least .ensures, ← c .before .before .before .before .before .before .before .before .before .before .before .before .before .before .before .before .before .before .before .before .before .before .longest .ensures, ← c .before .before .before .before .before .before .before .before .before .before .before .before .before .before .before .before .before .before .before .before .note .ensures, ← c .before .before .before .before .before .before .before .before .before .before .before .before .before .before .before .before .before .factor-out .ensures, ← c .before .before .before .before .before .before .before .before .before .before .before .before .before .before .offset .ensures, ← c .before .before .before .before .before .before .before .before .before .before .before .before .before .present .ensures, ← c .before .before .before .before .before .before .before .before .before .before .factor-out2 .ensures, ← c .before .before .before .before .before .before .before .offset2 .ensures, ← c .before .before .before .before .before .before .present2 .ensures, ← c .before .before .before .before .before .present3 .ensures) (c .before .before .factor-out3 .ensures))
 
 pub sorted-out-spec : {M : Type 1} → statement M
 sorted-out-spec =

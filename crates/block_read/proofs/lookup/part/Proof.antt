@@ -9,6 +9,7 @@ use Rattle.block_read.specs.declared.lookup.Span.the-variants.{At}
 use Rattle.block_read.specs.Lookup.{partOf, partAt}
 use Rattle.block_read.specs.LookupLaws.{Within}
 use denote.Ref.{now, ptr}
+use native.Mathlib.Nat.{zero-add}
 use Rattle.block_read.proofs.lookup.part.Statement.{statement}
 use Rattle.block_read.proofs.lookup.part.Tie as tie
 
@@ -34,7 +35,7 @@ part-result-end : tie.Need-part-result-end
 part-result-end c = search needs
 
 returns : tie.Need-returns
-returns c = (ap (partOf (now (c .before .before .before .before .before .args .t))) (sym (c .before .enum-told .given .1) ∙ c .before .before .before .span-of .ensures .0), ap (partAt (ptr (c .before .before .before .before .before .args .t))) (sym (c .before .enum-told .given .1) ∙ c .before .before .before .span-of .ensures .0))
+returns c = (ap (partOf (now (c .before .before .before .before .before .args .t))) (sym (c .before .enum-told .given .1) ∙ c .before .before .before .span-of .ensures .0), ap (λ (k : ℕ). (ptr (c .before .before .before .before .before .args .t) .0, k)) (zero-add (ptr (c .before .before .before .before .before .args .t) .1)) ∙ ap (partAt (ptr (c .before .before .before .before .before .args .t))) (sym (c .before .enum-told .given .1) ∙ c .before .before .before .span-of .ensures .0))
 
 sub-result-2 : tie.Need-sub-result-2
 sub-result-2 c = inside (length (now (c .before .before .before .before .before .args .t))) _ _ _ (c .before .a .given .1) (c .before .before .before .span-of .ensures .1) .0

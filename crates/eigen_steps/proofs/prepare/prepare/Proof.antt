@@ -2,7 +2,7 @@
 -- `eigen_steps::prepare::prepare` meets its contract.
 use native.Mathlib.Omega.{arith}
 use borrow.Author.Needs.{needs}
-use Rattle.eigen_steps.specs.Prepare.{readied}
+use Rattle.eigen_steps.specs.ArraysLaws.{readied}
 use Rattle.eigen_steps.proofs.prepare.prepare.Statement.{statement}
 use Rattle.eigen_steps.proofs.prepare.prepare.Tie as tie
 

@@ -7,7 +7,9 @@ use borrow.Author.Needs.{needs}
 use lib.ListN.{length}
 use Rattle.grid.specs.Loop.{upto}
 use Rattle.grid.specs.LoopLaws.{start, next, done}
-use Rattle.eigen_symmetric_eigen.specs.Layout.{copyRow, columns}
+use mathlib.Core.Path.{_∙_}
+use Rattle.eigen_symmetric_eigen.specs.LayoutSteps.{copyRow}
+use Rattle.eigen_symmetric_eigen.specs.LayoutLaws.{copied}
 use Rattle.eigen_symmetric_eigen.proofs.layout.columns.Statement.{statement}
 use Rattle.eigen_symmetric_eigen.proofs.layout.columns.Tie as tie
 
@@ -36,8 +38,7 @@ same-length : tie.Need-same-length Inv-loop μ-loop
 same-length c = omega arith
 
 returns : tie.Need-returns Inv-loop μ-loop
-unfolding columns
-returns c = done _ _ _ (omega arith) (omega arith) (c .before .loop .inv .2)
+returns c = done _ _ _ (omega arith) (omega arith) (c .before .loop .inv .2) ∙ copied _ _ _ (c .before .before .before .before .pre .1)
 
 pub columns-spec : {M : Type 1} → statement M
 columns-spec =

@@ -10,7 +10,7 @@ use Rattle.grid.specs.LoopLaws.{start, next, done}
 use mathlib.Core.Path.{_≡_}
 use denote.Ref.{now}
 use Rattle.grid.specs.Cell.{entry}
-use Rattle.eigen_symmetric_eigen.specs.Layout.{copyRowStep, copyRow}
+use Rattle.eigen_symmetric_eigen.specs.LayoutSteps.{copyRowStep, copyRow}
 use Rattle.eigen_symmetric_eigen.proofs.layout.copy_row.Statement.{statement}
 use Rattle.eigen_symmetric_eigen.proofs.layout.copy_row.Tie as tie
 

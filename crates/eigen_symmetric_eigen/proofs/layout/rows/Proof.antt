@@ -7,12 +7,14 @@ use borrow.Author.Needs.{needs}
 use lib.ListN.{length}
 use Rattle.grid.specs.Loop.{upto}
 use Rattle.grid.specs.LoopLaws.{start, next, done}
-use Rattle.eigen_symmetric_eigen.specs.Layout.{mirrorRow, rows}
+use mathlib.Core.Path.{_∙_}
+use Rattle.eigen_symmetric_eigen.specs.LayoutSteps.{transposeRow}
+use Rattle.eigen_symmetric_eigen.specs.RowsLaws.{transposed}
 use Rattle.eigen_symmetric_eigen.proofs.layout.rows.Statement.{statement}
 use Rattle.eigen_symmetric_eigen.proofs.layout.rows.Tie as tie
 
 abbrev Inv-loop : tie.InvT-loop
-Inv-loop n v₀ i₀ v i = (i ≤ n) × (length v ≡ length v₀) × (v ≡ upto (mirrorRow n) 0 i v₀)
+Inv-loop n v₀ i₀ v i = (i ≤ n) × (length v ≡ length v₀) × (v ≡ upto (transposeRow n) 0 i v₀)
 
 abbrev μ-loop : tie.MeasureT-loop
 μ-loop n v₀ i₀ v i = n - i
@@ -20,8 +22,8 @@ abbrev μ-loop : tie.MeasureT-loop
 loop-holds : tie.Need-loop-holds Inv-loop μ-loop
 loop-holds c = (omega arith, refl, start _ _ _)
 
-mirror-row-requires : tie.Need-mirror-row-requires Inv-loop μ-loop
-mirror-row-requires c κs = search needs
+transpose-row-requires : tie.Need-transpose-row-requires Inv-loop μ-loop
+transpose-row-requires c κs = search needs
 
 add-i : tie.Need-add-i Inv-loop μ-loop
 add-i c = omega arith
@@ -30,14 +32,13 @@ loop-less : tie.Need-loop-less Inv-loop μ-loop
 loop-less c = omega arith
 
 loop-again : tie.Need-loop-again Inv-loop μ-loop
-loop-again c = (omega arith, omega arith, next _ _ _ _ (omega arith) (c .before .before .before .before .before .loop .inv .2) (c .before .before .mirror-row .ensures))
+loop-again c = (omega arith, omega arith, next _ _ _ _ (omega arith) (c .before .before .before .before .before .loop .inv .2) (c .before .before .transpose-row .ensures))
 
 same-length : tie.Need-same-length Inv-loop μ-loop
 same-length c = omega arith
 
 returns : tie.Need-returns Inv-loop μ-loop
-unfolding rows
-returns c = done _ _ _ (omega arith) (omega arith) (c .before .loop .inv .2)
+returns c = done _ _ _ (omega arith) (omega arith) (c .before .loop .inv .2) ∙ transposed _ _ (c .before .before .before .pre)
 
 pub rows-spec : {M : Type 1} → statement M
 rows-spec =
@@ -46,7 +47,7 @@ rows-spec =
     Inv-loop
     μ-loop
     loop-holds
-    mirror-row-requires
+    transpose-row-requires
     add-i
     loop-less
     loop-again

@@ -4,7 +4,7 @@ use borrow.Author.Needs.{needs}
 use mathlib.Core.Path.{_≡_}
 use mathlib.Core.Bool.{true, false}
 use lib.Ieee.{lt}
-use Rattle.eigen_tql2.specs.Sort.{better}
+use Rattle.eigen_tql2.specs.SortSteps.{better}
 use Rattle.eigen_tql2.proofs.sort.better.Statement.{statement}
 use Rattle.eigen_tql2.proofs.sort.better.Tie as tie
 

@@ -6,7 +6,8 @@ use native.Mathlib.Omega.{arith}
 use borrow.Author.Needs.{needs}
 use Rattle.grid.specs.Loop.{upto}
 use Rattle.grid.specs.LoopLaws.{start, next, done}
-use Rattle.eigen_tql2.specs.Sort.{better, leastFrom}
+use Rattle.eigen_tql2.specs.Sort.{leastFrom}
+use Rattle.eigen_tql2.specs.SortSteps.{better}
 use Rattle.eigen_tql2.proofs.sort.least_from.Statement.{statement}
 use Rattle.eigen_tql2.proofs.sort.least_from.Tie as tie
 

@@ -7,7 +7,8 @@ use borrow.Author.Needs.{needs}
 use lib.ListN.{length}
 use Rattle.grid.specs.Loop.{upto}
 use Rattle.grid.specs.LoopLaws.{start, next, done}
-use Rattle.eigen_tql2.specs.Sort.{swapStep, swapped}
+use Rattle.eigen_tql2.specs.Sort.{swapped}
+use Rattle.eigen_tql2.specs.SortSteps.{swapStep}
 use Rattle.eigen_tql2.proofs.sort.swap.Statement.{statement}
 use Rattle.eigen_tql2.proofs.sort.swap.Tie as tie
 

@@ -7,7 +7,8 @@ use borrow.Author.Needs.{needs}
 use lib.ListN.{length}
 use Rattle.grid.specs.Loop.{upto}
 use Rattle.grid.specs.LoopLaws.{start, next, done}
-use Rattle.eigen_tql2_pass.specs.Transform.{lessStep, lessened}
+use Rattle.eigen_tql2_pass.specs.Transform.{lessened}
+use Rattle.eigen_tql2_pass.specs.TransformSteps.{lessStep}
 use Rattle.eigen_tql2_pass.proofs.ql_transformation.lessen.Statement.{statement}
 use Rattle.eigen_tql2_pass.proofs.ql_transformation.lessen.Tie as tie
 

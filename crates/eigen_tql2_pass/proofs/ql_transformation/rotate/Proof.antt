@@ -7,7 +7,8 @@ use borrow.Author.Needs.{needs}
 use lib.ListN.{length}
 use Rattle.grid.specs.Loop.{upto}
 use Rattle.grid.specs.LoopLaws.{start, next, done}
-use Rattle.eigen_tql2_pass.specs.Transform.{rotStep, rotated}
+use Rattle.eigen_tql2_pass.specs.Transform.{rotated}
+use Rattle.eigen_tql2_pass.specs.TransformSteps.{rotStep}
 use Rattle.eigen_tql2_pass.proofs.ql_transformation.rotate.Statement.{statement}
 use Rattle.eigen_tql2_pass.proofs.ql_transformation.rotate.Tie as tie
 

@@ -7,7 +7,8 @@ use borrow.Author.Needs.{needs}
 use lib.ListN.{length}
 use Rattle.grid.specs.Loop.{upto}
 use Rattle.grid.specs.LoopLaws.{start, next, done}
-use Rattle.eigen_tred2_definition.specs.Tred2.{clearStep, clear}
+use Rattle.eigen_tred2_definition.specs.Tred2.{clear}
+use Rattle.eigen_tred2_definition.specs.Tred2Steps.{clearStep}
 use Rattle.eigen_tred2.proofs.householder.clear.Statement.{statement}
 use Rattle.eigen_tred2.proofs.householder.clear.Tie as tie
 

@@ -7,7 +7,8 @@ use borrow.Author.Needs.{needs}
 use lib.ListN.{length}
 use Rattle.grid.specs.Loop.{upto}
 use Rattle.grid.specs.LoopLaws.{start, next, done}
-use Rattle.eigen_tred2_definition.specs.Tred2.{overScaleStep, overScale}
+use Rattle.eigen_tred2_definition.specs.Tred2.{overScale}
+use Rattle.eigen_tred2_definition.specs.Tred2Steps.{overScaleStep}
 use Rattle.grid.specs.Real.{zero64}
 use Rattle.eigen_tred2.proofs.householder.over_scale.Statement.{statement}
 use Rattle.eigen_tred2.proofs.householder.over_scale.Tie as tie

@@ -6,7 +6,8 @@ use native.Mathlib.Omega.{arith}
 use borrow.Author.Needs.{needs}
 use Rattle.grid.specs.Loop.{upto}
 use Rattle.grid.specs.LoopLaws.{start, next, done}
-use Rattle.eigen_tred2_definition.specs.Tred2.{scaleStep, scaleOf}
+use Rattle.eigen_tred2_definition.specs.Tred2.{scaleOf}
+use Rattle.eigen_tred2_definition.specs.Tred2Steps.{scaleStep}
 use Rattle.grid.specs.Real.{zero64}
 use Rattle.eigen_tred2.proofs.householder.scale_of.Statement.{statement}
 use Rattle.eigen_tred2.proofs.householder.scale_of.Tie as tie

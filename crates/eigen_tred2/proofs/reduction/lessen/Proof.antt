@@ -7,7 +7,8 @@ use borrow.Author.Needs.{needs}
 use lib.ListN.{length}
 use Rattle.grid.specs.Loop.{upto}
 use Rattle.grid.specs.LoopLaws.{start, next, done}
-use Rattle.eigen_tred2_definition.specs.Tred2.{lessenStep, lessen}
+use Rattle.eigen_tred2_definition.specs.Tred2.{lessen}
+use Rattle.eigen_tred2_definition.specs.Tred2Steps.{lessenStep}
 use Rattle.eigen_tred2.proofs.reduction.lessen.Statement.{statement}
 use Rattle.eigen_tred2.proofs.reduction.lessen.Tie as tie
 

@@ -7,7 +7,8 @@ use borrow.Author.Needs.{needs}
 use lib.ListN.{length}
 use Rattle.grid.specs.Loop.{upto}
 use Rattle.grid.specs.LoopLaws.{start, next, done}
-use Rattle.eigen_tred2_definition.specs.Tred2.{overHStep, overH}
+use Rattle.eigen_tred2_definition.specs.Tred2.{overH}
+use Rattle.eigen_tred2_definition.specs.Tred2Steps.{overHStep}
 use Rattle.grid.specs.Real.{zero64}
 use Rattle.eigen_tred2.proofs.reduction.over_h.Statement.{statement}
 use Rattle.eigen_tred2.proofs.reduction.over_h.Tie as tie

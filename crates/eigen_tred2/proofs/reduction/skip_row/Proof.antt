@@ -7,7 +7,8 @@ use borrow.Author.Needs.{needs}
 use lib.ListN.{length}
 use Rattle.grid.specs.Loop.{upto}
 use Rattle.grid.specs.LoopLaws.{start, next, done}
-use Rattle.eigen_tred2_definition.specs.Tred2.{skipStep, skipRow}
+use Rattle.eigen_tred2_definition.specs.Tred2.{skipRow}
+use Rattle.eigen_tred2_definition.specs.Tred2Steps.{skipStep}
 use Rattle.eigen_tred2.proofs.reduction.skip_row.Statement.{statement}
 use Rattle.eigen_tred2.proofs.reduction.skip_row.Tie as tie
 

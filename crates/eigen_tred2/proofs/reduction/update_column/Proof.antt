@@ -7,7 +7,8 @@ use borrow.Author.Needs.{needs}
 use lib.ListN.{length}
 use Rattle.grid.specs.Loop.{upto}
 use Rattle.grid.specs.LoopLaws.{start, next, done}
-use Rattle.eigen_tred2_definition.specs.Tred2.{updateStep, updateColumn}
+use Rattle.eigen_tred2_definition.specs.Tred2.{updateColumn}
+use Rattle.eigen_tred2_definition.specs.Tred2Steps.{updateStep}
 use Rattle.eigen_tred2.proofs.reduction.update_column.Statement.{statement}
 use Rattle.eigen_tred2.proofs.reduction.update_column.Tie as tie
 

@@ -7,7 +7,8 @@ use borrow.Author.Needs.{needs}
 use lib.ListN.{length}
 use Rattle.grid.specs.Loop.{upto}
 use Rattle.grid.specs.LoopLaws.{start, next, done}
-use Rattle.eigen_tred2_definition.specs.Tred2.{updatesStep, updates}
+use Rattle.eigen_tred2_definition.specs.Tred2.{updates}
+use Rattle.eigen_tred2_definition.specs.Tred2Steps.{updatesStep}
 use Rattle.eigen_tred2.proofs.reduction.updates.Statement.{statement}
 use Rattle.eigen_tred2.proofs.reduction.updates.Tie as tie
 

@@ -7,7 +7,7 @@ use borrow.Author.Needs.{needs}
 use lib.ListN.{length}
 use Rattle.grid.specs.Loop.{upto}
 use Rattle.grid.specs.LoopLaws.{start}
-use Rattle.eigen_tred2_definition.specs.Tred2.{similarityStep}
+use Rattle.eigen_tred2_definition.specs.Tred2Steps.{similarityStep}
 use Rattle.eigen_tred2.proofs.similarity.Together.{pairs, pairs-done}
 use Rattle.eigen_tred2.proofs.similarity.similar_pairs.Statement.{statement}
 use Rattle.eigen_tred2.proofs.similarity.similar_pairs.Tie as tie

@@ -7,7 +7,8 @@ use borrow.Author.Needs.{needs}
 use lib.ListN.{length}
 use Rattle.grid.specs.Loop.{upto}
 use Rattle.grid.specs.LoopLaws.{start, next}
-use Rattle.eigen_tred2_definition.specs.Tred2.{similarityStep, similarity}
+use Rattle.eigen_tred2_definition.specs.Tred2.{similarity}
+use Rattle.eigen_tred2_definition.specs.Tred2Steps.{similarityStep}
 use Rattle.eigen_tred2.proofs.similarity.Together.{rest}
 use Rattle.eigen_tred2.proofs.similarity.similarity.Statement.{statement}
 use Rattle.eigen_tred2.proofs.similarity.similarity.Tie as tie

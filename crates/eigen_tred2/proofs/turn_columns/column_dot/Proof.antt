@@ -6,7 +6,8 @@ use native.Mathlib.Omega.{arith}
 use borrow.Author.Needs.{needs}
 use Rattle.grid.specs.Loop.{upto}
 use Rattle.grid.specs.LoopLaws.{start, next, done}
-use Rattle.eigen_tred2_definition.specs.Tred2.{columnDotStep, columnDot}
+use Rattle.eigen_tred2_definition.specs.Tred2.{columnDot}
+use Rattle.eigen_tred2_definition.specs.Tred2Steps.{columnDotStep}
 use Rattle.grid.specs.Real.{zero64}
 use Rattle.eigen_tred2.proofs.turn_columns.column_dot.Statement.{statement}
 use Rattle.eigen_tred2.proofs.turn_columns.column_dot.Tie as tie

@@ -7,7 +7,8 @@ use borrow.Author.Needs.{needs}
 use lib.ListN.{length}
 use Rattle.grid.specs.Loop.{upto}
 use Rattle.grid.specs.LoopLaws.{start, next, done}
-use Rattle.eigen_tred2_definition.specs.Tred2.{columnOverStep, columnOver}
+use Rattle.eigen_tred2_definition.specs.Tred2.{columnOver}
+use Rattle.eigen_tred2_definition.specs.Tred2Steps.{columnOverStep}
 use Rattle.eigen_tred2.proofs.turn_columns.column_over.Statement.{statement}
 use Rattle.eigen_tred2.proofs.turn_columns.column_over.Tie as tie
 

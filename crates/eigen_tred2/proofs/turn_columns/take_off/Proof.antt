@@ -7,7 +7,8 @@ use borrow.Author.Needs.{needs}
 use lib.ListN.{length}
 use Rattle.grid.specs.Loop.{upto}
 use Rattle.grid.specs.LoopLaws.{start, next, done}
-use Rattle.eigen_tred2_definition.specs.Tred2.{takeStep, takeOff}
+use Rattle.eigen_tred2_definition.specs.Tred2.{takeOff}
+use Rattle.eigen_tred2_definition.specs.Tred2Steps.{takeStep}
 use Rattle.eigen_tred2.proofs.turn_columns.take_off.Statement.{statement}
 use Rattle.eigen_tred2.proofs.turn_columns.take_off.Tie as tie
 

@@ -7,7 +7,8 @@ use borrow.Author.Needs.{needs}
 use lib.ListN.{length}
 use Rattle.grid.specs.Loop.{upto}
 use Rattle.grid.specs.LoopLaws.{start, next}
-use Rattle.eigen_tred2_definition.specs.Tred2.{turnColumnStep, turnColumns}
+use Rattle.eigen_tred2_definition.specs.Tred2.{turnColumns}
+use Rattle.eigen_tred2_definition.specs.Tred2Steps.{turnColumnStep}
 use Rattle.eigen_tred2.proofs.turn_columns.Apart.{rest}
 use Rattle.eigen_tred2.proofs.turn_columns.turn_columns.Statement.{statement}
 use Rattle.eigen_tred2.proofs.turn_columns.turn_columns.Tie as tie

@@ -7,7 +7,7 @@ use borrow.Author.Needs.{needs}
 use lib.ListN.{length}
 use Rattle.grid.specs.Loop.{upto}
 use Rattle.grid.specs.LoopLaws.{start}
-use Rattle.eigen_tred2_definition.specs.Tred2.{turnColumnStep}
+use Rattle.eigen_tred2_definition.specs.Tred2Steps.{turnColumnStep}
 use Rattle.eigen_tred2.proofs.turn_columns.Apart.{fours, fours-done}
 use Rattle.eigen_tred2.proofs.turn_columns.turn_fours.Statement.{statement}
 use Rattle.eigen_tred2.proofs.turn_columns.turn_fours.Tie as tie

@@ -4,15 +4,16 @@ use mathlib.Core.Path.{_≡_, refl}
 use Prim.Native.Nat.{_-_, _≤_}
 use native.Mathlib.Omega.{arith}
 use borrow.Author.Needs.{needs}
-use lib.ListN.{length}
+use lib.ListN.{length, set}
 use Rattle.grid.specs.Loop.{upto}
 use Rattle.grid.specs.LoopLaws.{start, next, done}
-use Rattle.gram_schmidt.specs.Unit.{overStep, over}
+use Rattle.grid.specs.Real.{at, _⊘_}
+use Rattle.gram_schmidt.specs.Unit.{over}
 use Rattle.gram_schmidt.proofs.normalise.over.Statement.{statement}
 use Rattle.gram_schmidt.proofs.normalise.over.Tie as tie
 
 abbrev Inv-loop : tie.InvT-loop
-Inv-loop m by c₀ row₀ c row = (row ≤ m) × (length c ≡ length c₀) × (c ≡ upto (overStep by) 0 row c₀)
+Inv-loop m by c₀ row₀ c row = (row ≤ m) × (length c ≡ length c₀) × (c ≡ upto (λ row c. set c row (at c row ⊘ by)) 0 row c₀)
 
 abbrev μ-loop : tie.MeasureT-loop
 μ-loop m by c₀ row₀ c row = m - row

@@ -7,12 +7,14 @@ use borrow.Author.Needs.{needs}
 use lib.ListN.{length}
 use Rattle.grid.specs.Loop.{upto}
 use Rattle.grid.specs.LoopLaws.{start, next, done}
-use Rattle.gram_schmidt.specs.Unit.{putStep, putColumn}
+use Rattle.grid.specs.Cell.{putEntry}
+use Rattle.grid.specs.Real.{at}
+use Rattle.gram_schmidt.specs.Unit.{putColumn}
 use Rattle.gram_schmidt.proofs.normalise.put_column.Statement.{statement}
 use Rattle.gram_schmidt.proofs.normalise.put_column.Tie as tie
 
 abbrev Inv-loop : tie.InvT-loop
-Inv-loop m k j c q₀ row₀ q row = (row ≤ m) × (length q ≡ length q₀) × (q ≡ upto (putStep k j c) 0 row q₀)
+Inv-loop m k j c q₀ row₀ q row = (row ≤ m) × (length q ≡ length q₀) × (q ≡ upto (λ row q. putEntry q k row j (at c row)) 0 row q₀)
 
 abbrev μ-loop : tie.MeasureT-loop
 μ-loop m k j c q₀ row₀ q row = m - row

@@ -3,15 +3,15 @@
 use mathlib.Core.Path.{_≡_, refl}
 use Prim.Native.Nat.{_-_, _≤_}
 use native.Mathlib.Omega.{arith}
-use lib.ListN.{length}
+use lib.ListN.{length, getD}
 use Rattle.grid.specs.Loop.{upto}
 use Rattle.grid.specs.LoopLaws.{start, next, done}
-use Rattle.lanczos_pairs.specs.RitzPairs.{pairStep, pairs}
+use Rattle.lanczos_pairs.specs.RitzPairs.{pair, pairs}
 use Rattle.lanczos_pairs.proofs.ritz_pairs.pairs.Statement.{statement}
 use Rattle.lanczos_pairs.proofs.ritz_pairs.pairs.Tie as tie
 
 abbrev Inv-loop : tie.InvT-loop
-Inv-loop n s k m found q vals vecs o y₀ x₀ t₀ y x t = (t ≤ found) × (length y ≡ length y₀) × (length x ≡ length x₀) × (x ≡ upto (pairStep n k m q vals vecs o) 0 t x₀)
+Inv-loop n s k m found q vals vecs o y₀ x₀ t₀ y x t = (t ≤ found) × (length y ≡ length y₀) × (length x ≡ length x₀) × (x ≡ upto (λ t x. pair n k m q vals vecs (getD o t 0) t x) 0 t x₀)
 
 abbrev μ-loop : tie.MeasureT-loop
 μ-loop n s k m found q vals vecs o y₀ x₀ t₀ y x t = found - t

@@ -7,7 +7,8 @@ use borrow.Author.Needs.{needs}
 use lib.ListN.{length}
 use Rattle.grid.specs.Loop.{upto}
 use Rattle.grid.specs.LoopLaws.{start, next, done}
-use Rattle.lanczos_pairs.specs.TridiagonalMatrix.{triStep, tri}
+use Rattle.lanczos_pairs.specs.TridiagonalMatrix.{tri}
+use Rattle.lanczos_pairs.specs.InPlaceLaws.{triStep}
 use Rattle.lanczos_pairs.proofs.tridiagonal_matrix.tri.Statement.{statement}
 use Rattle.lanczos_pairs.proofs.tridiagonal_matrix.tri.Tie as tie
 

@@ -7,7 +7,8 @@ use borrow.Author.Needs.{needs}
 use lib.ListN.{length}
 use Rattle.grid.specs.Loop.{upto}
 use Rattle.grid.specs.LoopLaws.{start, next, done}
-use Rattle.lanczos_steps.specs.Reorthogonalise.{againstAll, twice}
+use Rattle.lanczos_steps.specs.Reorthogonalise.{twice}
+use Rattle.lanczos_steps.specs.AgainstLaws.{againstAll}
 use Rattle.lanczos_steps.proofs.reorthogonalise.twice.Statement.{statement}
 use Rattle.lanczos_steps.proofs.reorthogonalise.twice.Tie as tie
 
@@ -36,7 +37,7 @@ same-length : tie.Need-same-length Inv-loop μ-loop
 same-length c = omega arith
 
 returns : tie.Need-returns Inv-loop μ-loop
-unfolding twice
+unfolding againstAll twice
 returns c = done _ _ _ (omega arith) (omega arith) (c .before .loop .inv .2)
 
 pub twice-spec : {M : Type 1} → statement M

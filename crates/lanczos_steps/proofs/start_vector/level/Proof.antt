@@ -5,7 +5,6 @@ use Prim.Native.Nat.{_-_, _≤_}
 use native.Mathlib.Omega.{arith}
 use borrow.Author.Needs.{needs}
 use lib.ListN.{length}
-use Rattle.lanczos_steps.specs.StartVector.{level}
 use Rattle.grid.specs.Real.{one64, _⊘_}
 use Rattle.root.specs.Root.{root}
 use lib.Ieee.{ofInt, binary64}
@@ -47,7 +46,6 @@ same-length : tie.Need-same-length Inv-loop μ-loop
 same-length c = omega arith
 
 returns : tie.Need-returns Inv-loop μ-loop
-unfolding level
 returns c = table-done _ (c .before .loop .to) (c .before .loop .inv .0) (omega arith) (omega arith) (c .before .loop .inv .3)
 
 pub level-spec : {M : Type 1} → statement M

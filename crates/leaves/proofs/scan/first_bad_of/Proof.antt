@@ -5,8 +5,8 @@ use Prim.Native.Nat.{_-_, _*_, _≤_}
 use native.Mathlib.Omega.{arith}
 use borrow.Author.Needs.{needs}
 use denote.Ref.{now}
-use Rattle.leaves.specs.Scan.{cellAt, placeOf}
-use Rattle.leaves.specs.ScanLaws.{after, firstBadOf}
+use Rattle.leaves.specs.Scan.{placeOf}
+use Rattle.leaves.specs.ScanLaws.{after, cellAt, firstBadOf}
 use Rattle.leaves.proofs.scan.Search.{Left, left-more, found-here, found-none, after-place, start-place, place-low, place-within}
 use Rattle.leaves.proofs.scan.first_bad_of.Statement.{statement}
 use Rattle.leaves.proofs.scan.first_bad_of.Tie as tie

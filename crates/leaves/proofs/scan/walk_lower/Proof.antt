@@ -6,8 +6,8 @@ use native.Mathlib.Omega.{arith}
 use borrow.Author.Needs.{needs}
 use lib.ListN.{length}
 use denote.Ref.{now}
-use Rattle.leaves.specs.Scan.{lowerAt, placeOf, firstBadLower}
-use Rattle.leaves.specs.ScanLaws.{after}
+use Rattle.leaves.specs.Scan.{placeOf}
+use Rattle.leaves.specs.ScanLaws.{after, lowerAt, lower-is}
 use Rattle.leaves.proofs.scan.Search.{Left, left-more, found-here, found-none, after-place, start-place, place-low}
 use Rattle.leaves.proofs.scan.walk_lower.Statement.{statement}
 use Rattle.leaves.proofs.scan.walk_lower.Tie as tie
@@ -34,8 +34,7 @@ class-of-requires : tie.Need-class-of-requires Inv-loop μ-loop
 class-of-requires c κs = search needs
 
 returns : tie.Need-returns Inv-loop μ-loop
-unfolding firstBadLower
-returns c = found-here (lowerAt (c .before .before .before .before .before .before .before .before .args .n) (now (c .before .before .before .before .before .before .before .before .args .a))) (c .before .before .before .before .before .before .loop .k) (length (now (c .before .before .before .before .before .before .before .before .args .a))) (omega arith) (rw (← c .before .before .before .before .before .before .loop .inv .1, ← c .before .before .before .before .at1 .ensures, ← c .before .before .before .lower-of .ensures, ← c .before .before .is-finite .ensures) (c .before .if1 .taken)) (rw (← c .before .before .before .before .before .before .loop .inv .1, ← c .before .before .before .before .at1 .ensures, ← c .before .before .before .lower-of .ensures) (c .class-of .ensures)) (c .before .before .before .before .before .before .loop .inv .2)
+returns c = found-here (lowerAt (c .before .before .before .before .before .before .before .before .args .n) (now (c .before .before .before .before .before .before .before .before .args .a))) (c .before .before .before .before .before .before .loop .k) (length (now (c .before .before .before .before .before .before .before .before .args .a))) (omega arith) (rw (← c .before .before .before .before .before .before .loop .inv .1, ← c .before .before .before .before .at1 .ensures, ← c .before .before .before .lower-of .ensures, ← c .before .before .is-finite .ensures) (c .before .if1 .taken)) (rw (← c .before .before .before .before .before .before .loop .inv .1, ← c .before .before .before .before .at1 .ensures, ← c .before .before .before .lower-of .ensures) (c .class-of .ensures)) (c .before .before .before .before .before .before .loop .inv .2) ∙ lower-is (c .before .before .before .before .before .before .before .before .args .n) (now (c .before .before .before .before .before .before .before .before .args .a))
 
 after-requires : tie.Need-after-requires Inv-loop μ-loop
 after-requires c κs = omega (arith, place-low (c .before .before .before .before .before .before .before .args .n) (c .before .before .before .before .before .loop .k) (c .before .before .before .before .before .loop .inv .1))
@@ -50,8 +49,7 @@ loop-again : tie.Need-loop-again Inv-loop μ-loop
 loop-again c = (omega arith, c .after .ensures ∙ ap (after (c .before .before .before .before .before .before .before .before .args .n)) (c .before .before .before .before .before .before .loop .inv .1) ∙ after-place (c .before .before .before .before .before .before .before .before .args .n) (c .before .before .before .before .before .before .loop .k), left-more (lowerAt (c .before .before .before .before .before .before .before .before .args .n) (now (c .before .before .before .before .before .before .before .before .args .a))) (c .before .before .before .before .before .before .loop .k) (length (now (c .before .before .before .before .before .before .before .before .args .a))) (omega arith) (rw (← c .before .before .before .before .before .before .loop .inv .1, ← c .before .before .before .before .at1 .ensures, ← c .before .before .before .lower-of .ensures, ← c .before .before .is-finite .ensures) (c .before .if1 .left)) (c .before .before .before .before .before .before .loop .inv .2))
 
 returns-2 : tie.Need-returns-2 Inv-loop μ-loop
-unfolding firstBadLower
-returns-2 c = found-none (lowerAt (c .before .before .before .args .n) (now (c .before .before .before .args .a))) (c .before .loop .k) (length (now (c .before .before .before .args .a))) (omega arith) (c .before .loop .inv .2)
+returns-2 c = found-none (lowerAt (c .before .before .before .args .n) (now (c .before .before .before .args .a))) (c .before .loop .k) (length (now (c .before .before .before .args .a))) (omega arith) (c .before .loop .inv .2) ∙ lower-is (c .before .before .before .args .n) (now (c .before .before .before .args .a))
 
 pub walk-lower-spec : {M : Type 1} → statement M
 walk-lower-spec =

@@ -4,16 +4,16 @@ use mathlib.Core.Path.{_≡_, _∙_, refl}
 use Prim.Native.Nat.{_+_, _-_, _*_, _≤_}
 use native.Mathlib.Omega.{arith}
 use lib.ListN.{length}
-use Rattle.solve.specs.PseudoInverse.{pinvRow}
-use Rattle.grid.specs.Table.{rows}
+use Rattle.grid.specs.Table.{rows, table}
 use Rattle.grid.specs.TableLaws.{rows-none, row-end, rows-more, rows-done, length-part}
 use lib.ListN.{take, drop}
 use denote.Ref.{now}
+use Rattle.solve.specs.PseudoInverse.{pinvSum}
 use Rattle.solve.proofs.pseudo_inverse_rows.pinv_rows.Statement.{statement}
 use Rattle.solve.proofs.pseudo_inverse_rows.pinv_rows.Tie as tie
 
 abbrev Inv-loop : tie.InvT-loop
-Inv-loop m r n tolerance s u vt w₀ x₀ j₀ w x j = (j ≤ n) × (length w ≡ length w₀) × (length x ≡ length x₀) × (take (j * m) x ≡ rows (pinvRow m r n tolerance s u vt) j)
+Inv-loop m r n tolerance s u vt w₀ x₀ j₀ w x j = (j ≤ n) × (length w ≡ length w₀) × (length x ≡ length x₀) × (take (j * m) x ≡ rows (λ j. table (pinvSum r n tolerance s u vt j) m) j)
 
 abbrev μ-loop : tie.MeasureT-loop
 μ-loop m r n tolerance s u vt w₀ x₀ j₀ w x j = n - j

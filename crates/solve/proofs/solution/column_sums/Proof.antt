@@ -6,14 +6,16 @@ use native.Mathlib.Omega.{arith}
 use borrow.Author.Needs.{needs}
 use lib.ListN.{length}
 use Rattle.grid.specs.TableLaws.{turns, turns-none, turns-more}
-use Rattle.solve.specs.Solution.{columnStep, columnSum}
+use Rattle.solve.specs.Solution.{columnSum}
 use native.Mathlib.Nat.{le-antisymm}
 use denote.Ref.{now}
+use Rattle.grid.specs.Real.{_⊕_, _⊗_, at}
+use Rattle.grid.specs.Cell.{entry}
 use Rattle.solve.proofs.solution.column_sums.Statement.{statement}
 use Rattle.solve.proofs.solution.column_sums.Tie as tie
 
 abbrev Inv-loop : tie.InvT-loop
-Inv-loop rows cols a v y₀ i₀ y i = (i ≤ rows) × (length y ≡ length y₀) × (y ≡ turns (columnStep cols a v) cols i)
+Inv-loop rows cols a v y₀ i₀ y i = (i ≤ rows) × (length y ≡ length y₀) × (y ≡ turns (λ j i acc. acc ⊕ entry a cols i j ⊗ at v i) cols i)
 
 abbrev μ-loop : tie.MeasureT-loop
 μ-loop rows cols a v y₀ i₀ y i = rows - i
@@ -44,7 +46,7 @@ same-length c = omega arith
 
 returns : tie.Need-returns Inv-loop μ-loop
 unfolding turns columnSum
-returns c = c .before .loop .inv .2 ∙ ap (turns (columnStep (c .before .before .before .before .before .before .before .before .before .args .cols) (now (c .before .before .before .before .before .before .before .before .before .args .a)) (now (c .before .before .before .before .before .before .before .before .before .args .v))) (c .before .before .before .before .before .before .before .before .before .args .cols)) (le-antisymm (c .before .loop .inv .0) (c .loop-test .left))
+returns c = c .before .loop .inv .2 ∙ ap (turns (λ j i acc. acc ⊕ entry (now (c .before .before .before .before .before .before .before .before .before .args .a)) (c .before .before .before .before .before .before .before .before .before .args .cols) i j ⊗ at (now (c .before .before .before .before .before .before .before .before .before .args .v)) i) (c .before .before .before .before .before .before .before .before .before .args .cols)) (le-antisymm (c .before .loop .inv .0) (c .loop-test .left))
 
 pub column-sums-spec : {M : Type 1} → statement M
 column-sums-spec =

@@ -7,7 +7,8 @@ use borrow.Author.Needs.{needs}
 use lib.ListN.{length}
 use Rattle.grid.specs.Loop.{upto}
 use Rattle.grid.specs.LoopLaws.{start, next, done}
-use Rattle.svd_jacobi_svd_tall.specs.SingularValues.{divideStep, divided}
+use Rattle.svd_jacobi_svd_tall.specs.SingularValues.{divided}
+use Rattle.svd_jacobi_svd_tall.specs.SingularValuesSteps.{divideStep}
 use Rattle.svd_jacobi_svd_tall.proofs.singular_values.divide.Statement.{statement}
 use Rattle.svd_jacobi_svd_tall.proofs.singular_values.divide.Tie as tie
 

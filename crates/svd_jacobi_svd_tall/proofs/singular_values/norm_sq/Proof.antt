@@ -6,7 +6,8 @@ use native.Mathlib.Omega.{arith}
 use borrow.Author.Needs.{needs}
 use Rattle.grid.specs.Loop.{upto}
 use Rattle.grid.specs.LoopLaws.{start, next, done}
-use Rattle.svd_jacobi_svd_tall.specs.SingularValues.{normStep, normSq}
+use Rattle.svd_jacobi_svd_tall.specs.SingularValues.{normSq}
+use Rattle.svd_jacobi_svd_tall.specs.SingularValuesSteps.{normStep}
 use Rattle.grid.specs.Real.{zero64}
 use Rattle.svd_jacobi_svd_tall.proofs.singular_values.norm_sq.Statement.{statement}
 use Rattle.svd_jacobi_svd_tall.proofs.singular_values.norm_sq.Tie as tie

@@ -6,7 +6,8 @@ use native.Mathlib.Omega.{arith}
 use borrow.Author.Needs.{needs}
 use Rattle.grid.specs.Loop.{upto}
 use Rattle.grid.specs.LoopLaws.{start, next, done}
-use Rattle.svd_jacobi_svd_tall.specs.Sweep.{gramStep, gram}
+use Rattle.svd_jacobi_svd_tall.specs.Sweep.{gram}
+use Rattle.svd_jacobi_svd_tall.specs.SweepSteps.{gramStep}
 use Rattle.svd_jacobi_svd_tall.proofs.sweep.gram.Statement.{statement}
 use Rattle.svd_jacobi_svd_tall.proofs.sweep.gram.Tie as tie
 

@@ -7,7 +7,8 @@ use borrow.Author.Needs.{needs}
 use lib.ListN.{length}
 use Rattle.grid.specs.Loop.{upto}
 use Rattle.grid.specs.LoopLaws.{start, next, done}
-use Rattle.svd_jacobi_svd_tall.specs.Sweep.{rotateStep, rotated}
+use Rattle.svd_jacobi_svd_tall.specs.Sweep.{rotated}
+use Rattle.svd_jacobi_svd_tall.specs.SweepSteps.{rotateStep}
 use Rattle.svd_jacobi_svd_tall.proofs.sweep.rotate.Statement.{statement}
 use Rattle.svd_jacobi_svd_tall.proofs.sweep.rotate.Tie as tie
 

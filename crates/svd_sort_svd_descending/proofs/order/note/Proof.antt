@@ -8,8 +8,7 @@ use Rattle.grid.specs.Loop.{upto}
 use Rattle.grid.specs.LoopLaws.{start, next, done}
 use denote.Ref.{now}
 use Rattle.grid.specs.Real.{at}
-use Rattle.svd_sort_svd_descending.specs.Order.{noteStep, noted}
-use Rattle.svd_sort_svd_descending.specs.Rank.{rank-lt}
+use Rattle.svd_sort_svd_descending.specs.Rank.{noteStep, noted, rank-lt}
 use Rattle.svd_sort_svd_descending.proofs.order.note.Statement.{statement}
 use Rattle.svd_sort_svd_descending.proofs.order.note.Tie as tie
 

@@ -6,11 +6,11 @@ use native.Mathlib.Omega.{arith}
 use borrow.Author.Needs.{needs}
 use Rattle.grid.specs.Loop.{upto}
 use Rattle.grid.specs.LoopLaws.{start, next, done}
+use mathlib.Core.Bool.{cond}
 use Rattle.grid.specs.Real.{at}
-use Rattle.svd_sort_svd_descending.specs.Order.{ahead, countStep, rank}
-use Rattle.svd_sort_svd_descending.specs.Rank.{one-le}
+use Rattle.svd_sort_svd_descending.specs.Order.{ahead, rank}
+use Rattle.svd_sort_svd_descending.specs.Rank.{one, one-le}
 use lib.Ieee.{Float}
-use Rattle.svd_sort_svd_descending.specs.Order.{one}
 use denote.Ref.{now}
 use Rattle.svd_sort_svd_descending.proofs.order.rank.Statement.{statement}
 use Rattle.svd_sort_svd_descending.proofs.order.rank.Tie as tie
@@ -19,7 +19,7 @@ most : (n : ℕ) (s : ℕ → Float) (j k : ℕ) → n ≡ one (ahead s j k) →
 most n s j k e = rw e (one-le (ahead s j k))
 
 abbrev Inv-loop : tie.InvT-loop
-Inv-loop w from r k n₀ j₀ n j = (j ≤ r) × (n ≤ j) × (n ≡ upto (countStep (λ (i : ℕ). at w (from + i)) k) 0 j 0)
+Inv-loop w from r k n₀ j₀ n j = (j ≤ r) × (n ≤ j) × (n ≡ upto (λ j n. n + cond (ahead (λ (i : ℕ). at w (from + i)) j k) 1 0) 0 j 0)
 
 abbrev μ-loop : tie.MeasureT-loop
 μ-loop w from r k n₀ j₀ n j = r - j

@@ -1,5 +1,5 @@
 -- Generated from the answers file beside it by tools/prove/prove.py: edit that.
--- `eigen_symmetric_eigen::layout::mirror_row` meets its contract.
+-- `eigen_symmetric_eigen::layout::transpose_row` meets its contract.
 use mathlib.Core.Path.{_≡_, refl}
 use Prim.Native.Nat.{_-_, _≤_}
 use native.Mathlib.Omega.{arith}
@@ -7,12 +7,12 @@ use borrow.Author.Needs.{needs}
 use lib.ListN.{length}
 use Rattle.grid.specs.Loop.{upto}
 use Rattle.grid.specs.LoopLaws.{start, next, done}
-use Rattle.eigen_symmetric_eigen.specs.Layout.{mirrorStep, mirrorRow}
-use Rattle.eigen_symmetric_eigen.proofs.layout.mirror_row.Statement.{statement}
-use Rattle.eigen_symmetric_eigen.proofs.layout.mirror_row.Tie as tie
+use Rattle.eigen_symmetric_eigen.specs.LayoutSteps.{transposeStep, transposeRow}
+use Rattle.eigen_symmetric_eigen.proofs.layout.transpose_row.Statement.{statement}
+use Rattle.eigen_symmetric_eigen.proofs.layout.transpose_row.Tie as tie
 
 abbrev Inv-loop : tie.InvT-loop
-Inv-loop n i v₀ j₀ v j = (j ≤ i) × (length v ≡ length v₀) × (v ≡ upto (mirrorStep n i) 0 j v₀)
+Inv-loop n i v₀ j₀ v j = (j ≤ i) × (length v ≡ length v₀) × (v ≡ upto (transposeStep n i) 0 j v₀)
 
 abbrev μ-loop : tie.MeasureT-loop
 μ-loop n i v₀ j₀ v j = i - j
@@ -45,11 +45,11 @@ same-length : tie.Need-same-length Inv-loop μ-loop
 same-length c = omega arith
 
 returns : tie.Need-returns Inv-loop μ-loop
-unfolding mirrorRow
+unfolding transposeRow
 returns c = done _ _ _ (omega arith) (omega arith) (c .before .loop .inv .2)
 
-pub mirror-row-spec : {M : Type 1} → statement M
-mirror-row-spec =
+pub transpose-row-spec : {M : Type 1} → statement M
+transpose-row-spec =
     tie.close
     (tie.spec
     Inv-loop

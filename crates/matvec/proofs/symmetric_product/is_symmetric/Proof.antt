@@ -1,15 +1,15 @@
 -- Generated from the answers file beside it by tools/prove/prove.py: edit that.
--- `matvec::symmetric_product::mirrored` meets its contract.
+-- `matvec::symmetric_product::is_symmetric` meets its contract.
 use mathlib.Core.Path.{_∙_, sym}
 use Prim.Native.Nat.{ℕ, _-_, _<_, _≤_}
 use native.Mathlib.Omega.{arith}
 use borrow.Author.Needs.{needs}
 use mathlib.Core.Bool.{true, true≢false}
-use Rattle.matvec.specs.Symmetry.{Row, mirror-of, four-rows, mirror-fours}
+use Rattle.matvec.specs.Symmetry.{Row, symmetric-of, four-rows, symmetric-fours}
 use borrow.Author.Tests.{not-true, not-false}
 use denote.Ref.{now}
-use Rattle.matvec.proofs.symmetric_product.mirrored.Statement.{statement}
-use Rattle.matvec.proofs.symmetric_product.mirrored.Tie as tie
+use Rattle.matvec.proofs.symmetric_product.is_symmetric.Statement.{statement}
+use Rattle.matvec.proofs.symmetric_product.is_symmetric.Tie as tie
 
 abbrev Inv-loop : tie.InvT-loop
 Inv-loop n a i₀ i = (i ≤ n) × ((k : ℕ) → k < i → Row n a k)
@@ -30,7 +30,7 @@ rows-same-requires : tie.Need-rows-same-requires Inv-loop μ-loop
 rows-same-requires c κs = search needs
 
 returns-2 : tie.Need-returns-2 Inv-loop μ-loop
-returns-2 c = (λ e. absurd (true≢false (sym e)), λ h. sym (not-true (c .before .rows-same .result) (c .if2 .taken)) ∙ c .before .rows-same .ensures .1 (mirror-fours (c .before .before .before .before .before .before .args .n) (now (c .before .before .before .before .before .before .args .a)) (c .before .before .before .loop .i) (omega arith) (h .1)))
+returns-2 c = (λ e. absurd (true≢false (sym e)), λ h. sym (not-true (c .before .rows-same .result) (c .if2 .taken)) ∙ c .before .rows-same .ensures .1 (symmetric-fours (c .before .before .before .before .before .before .args .n) (now (c .before .before .before .before .before .before .args .a)) (c .before .before .before .loop .i) (omega arith) (h .1)))
 
 add-i : tie.Need-add-i Inv-loop μ-loop
 add-i c = omega arith
@@ -45,10 +45,10 @@ rows-same-requires-2 : tie.Need-rows-same-requires-2 Inv-loop μ-loop
 rows-same-requires-2 c κs = search needs
 
 returns-3 : tie.Need-returns-3 Inv-loop μ-loop
-returns-3 c = (λ e. (omega arith, mirror-of (c .before .before .before .before .before .args .n) (now (c .before .before .before .before .before .args .a)) (λ k l. four-rows (c .before .before .before .before .before .args .n) (now (c .before .before .before .before .before .args .a)) (c .before .before .loop .i) (c .before .before .before .before .before .args .n - 4) (omega arith) (c .before .before .loop .inv .1) (c .rows-same2 .ensures .0 e) k (omega (arith, l)))), λ h. c .rows-same2 .ensures .1 (mirror-fours (c .before .before .before .before .before .args .n) (now (c .before .before .before .before .before .args .a)) (c .before .before .before .before .before .args .n - 4) (omega arith) (h .1)))
+returns-3 c = (λ e. (omega arith, symmetric-of (c .before .before .before .before .before .args .n) (now (c .before .before .before .before .before .args .a)) (λ k l. four-rows (c .before .before .before .before .before .args .n) (now (c .before .before .before .before .before .args .a)) (c .before .before .loop .i) (c .before .before .before .before .before .args .n - 4) (omega arith) (c .before .before .loop .inv .1) (c .rows-same2 .ensures .0 e) k (omega (arith, l)))), λ h. c .rows-same2 .ensures .1 (symmetric-fours (c .before .before .before .before .before .args .n) (now (c .before .before .before .before .before .args .a)) (c .before .before .before .before .before .args .n - 4) (omega arith) (h .1)))
 
-pub mirrored-spec : {M : Type 1} → statement M
-mirrored-spec =
+pub is-symmetric-spec : {M : Type 1} → statement M
+is-symmetric-spec =
     tie.close
     (tie.spec
     Inv-loop
