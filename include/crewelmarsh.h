@@ -192,7 +192,7 @@
  * An entry that is the first to come to one of these three takes the loader's stack besides, some 3 KB (docs/C.md):
  * link with -z now, or have 4 KB more. CREWELMARSH_STACK_MOST was enough for any call either way.
  *
- * The code is some 55 KB, and the library has no writable memory.
+ * The code is some 64 KB, and the library has no writable memory.
  *
  * HOW LONG A CALL TAKES
  *
@@ -203,8 +203,8 @@
  *
  * What was found by a search for bad input on an AMD EPYC, x86-64 (docs/C.md): symmetric_eigen 3 passes a value at the
  * most, and 1.9, 1.4 and 1.3 times the time of an ordinary covariance at 16, 64 and 256; svd all of 60 sweeps, on
- * numbers near 2^-510, whose products are subnormal: 11, 10 and 10 times the time of an ordinary matrix, 1.9 seconds at
- * 256; lanczos up to 2.3 times, qr_q up to 1.7 times. On a processor that is slower with subnormal numbers it may be
+ * numbers near 2^-510, whose products are subnormal: 11, 10 and 10 times the time of an ordinary matrix, 1.2 seconds at
+ * 256; lanczos up to 2.7 times, qr_q up to 1.7 times. On a processor that is slower with subnormal numbers it may be
  * more. A lower limit bounds it: an outcome that is not 9 is the same at every higher limit (T4, T13, T35).
  *
  * WHICH MACHINE

@@ -203,8 +203,8 @@ $(ORACLE)/worst: oracle/worst.c include/crewelmarsh.h $(ARCHIVE)
 bench-worst: $(ORACLE)/worst
 	$(ORACLE)/worst $(SEED)
 
-# The root as it is compiled, held to the processor's and measured beside it and beside what stood there before, and both editions of hypot; no archive and no
-# rustc.
+# The root as it is compiled, alone and two in one loop, held to the processor's and measured beside it and beside what stood there before, and both editions of
+# hypot; no archive and no rustc.
 $(ORACLE)/root_leaves.o: oracle/root.sh oracle/module.sh oracle/compile.sh $(foreach crate,root leaves hypot test_vectors,$(wildcard crates/$(crate)/src/*.rt))
 	@mkdir -p $(ORACLE)
 	oracle/root.sh $@

@@ -1,5 +1,5 @@
-/* `root::root` as it is compiled (oracle/root.sh) beside the processor's own root and what stood in its place before (oracle/root_former.c): each held to the
-   processor's on random numbers, and the times of all in one run; and of both editions of hypot. root COUNT. */
+/* `root::root` and `root::side_by_side::roots` as they are compiled (oracle/root.sh) beside the processor's own root and what stood in its place before
+   (oracle/root_former.c): each held to the processor's on random numbers, and the times of all in one run; and of both editions of hypot. root COUNT. */
 #define _POSIX_C_SOURCE 199309L
 #include <stdint.h>
 #include <stdio.h>
@@ -8,6 +8,7 @@
 #include <time.h>
 
 double root_root(double x);
+void root_side_by_side_roots(double roots[2], double x, double y);
 double leaves_hypot(double x, double y);
 double hypot_hypot2(double x, double y);
 double former_root(double x);
@@ -51,9 +52,13 @@ static int same(double x, double y) { return x != x ? y != y : to_bits(x) == to_
 static unsigned long hold(const char *what, unsigned long count, uint64_t (*draw)(void))
 {
     unsigned long i, wrong = 0;
+    double last = 0, roots[2];
     for (i = 0; i < count; i++) {
         double x = from_bits(draw()), y = own_root(x);
         wrong += !same(root_root(x), y) || !same(former_root(x), y) || !same(factor_root(x), y);
+        root_side_by_side_roots(roots, last, x);
+        wrong += !same(roots[0], own_root(last)) || !same(roots[1], y);
+        last = x;
     }
     printf("%s: %lu numbers, %lu differ from the processor's root\n", what, count, wrong);
     return wrong;
@@ -110,6 +115,33 @@ static void apart(double (*root)(double))
     kept = seen;
 }
 
+/* The same two by two, each pair in one loop. */
+static void waiting_pairs(double (*root)(double))
+{
+    uint64_t last = 0;
+    double roots[2];
+    int i;
+    (void)root;
+    for (i = 0; i < NUMBERS; i += 2) {
+        root_side_by_side_roots(roots, from_bits(numbers[i] ^ (last & 1)), from_bits(numbers[i + 1] ^ (last & 1)));
+        last = to_bits(roots[0]) ^ to_bits(roots[1]);
+    }
+    kept = last;
+}
+
+static void apart_pairs(double (*root)(double))
+{
+    uint64_t seen = 0;
+    double roots[2];
+    int i;
+    (void)root;
+    for (i = 0; i < NUMBERS; i += 2) {
+        root_side_by_side_roots(roots, from_bits(numbers[i]), from_bits(numbers[i + 1]));
+        seen += to_bits(roots[0]) + to_bits(roots[1]);
+    }
+    kept = seen;
+}
+
 /* The median over runs, in nanoseconds a root. */
 static double median(void (*all)(double (*)(double)), double (*root)(double))
 {
@@ -145,6 +177,7 @@ int main(int words, char **word)
     time_of("before: a guess, tested in whole numbers", former_root);
     time_of("before, where the guess was not enough: the digit as a factor", factor_root);
     time_of("the root: a select for each digit", root_root);
+    printf("| two roots in one loop, for each | %.1f | %.1f |\n", median(waiting_pairs, NULL), median(apart_pairs, NULL));
     time_of("hypot, edition 1", hypot_1);
     time_of("hypot, edition 2", hypot_2);
     return wrong != 0;

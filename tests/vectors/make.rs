@@ -1,4 +1,4 @@
-// Writes the vectors of `root` and `hypot` that the program `test_vectors` is held to: crates/test_vectors/stdin and crates/test_vectors/stdout.
+// Writes the vectors of `root`, `roots` and `hypot` that the program `test_vectors` is held to: crates/test_vectors/stdin and crates/test_vectors/stdout.
 // The README beside this file says what is in them. Nothing here comes from the project's own code.
 
 use std::collections::HashSet;
@@ -142,6 +142,12 @@ fn root_cases(random: &mut Random) -> Vec<(&'static str, Vec<u64>)> {
     vec![("zeros, infinities, NaN, negatives", special), ("ends", ends), ("subnormal", subnormal), ("exponents", fields), ("squares and neighbours", squares), ("near midpoints", hard())]
 }
 
+// Two roots worked out side by side: those that aren't, and others, each against each.
+fn pair_cases() -> Vec<(u64, u64)> {
+    let values = [0, SIGN, INFINITY, NAN, SIGN | 0x3ff << 52, 3, 0x400 << 52, INFINITY - 1];
+    values.iter().flat_map(|&x| values.iter().map(move |&y| (x, y))).collect()
+}
+
 // ---- hypot, by the rule: the greater magnitude is taken out, each step rounds once
 
 fn hypot(x: u64, y: u64) -> u64 {
@@ -233,7 +239,13 @@ fn main() {
         }
         println!("hypot, {name}: {}", hypots - before);
     }
-    println!("{roots} roots, {hypots} hypots, {} bytes", given.len());
+    let pairs = pair_cases();
+    for &(x, y) in &pairs {
+        writeln!(given, "{x:016x}<{y:016x}\n{x:016x}>{y:016x}").unwrap();
+        show(&mut wanted, root(x));
+        show(&mut wanted, root(y));
+    }
+    println!("{roots} roots, {hypots} hypots, {} pairs of roots, {} bytes", pairs.len(), given.len());
     assert!(given.len() <= 65536, "more than the program reads");
     std::fs::write("crates/test_vectors/stdin", given).unwrap();
     std::fs::write("crates/test_vectors/stdout", wanted).unwrap();

@@ -111,9 +111,10 @@ def imports(text, crate, uses):
     take('native.Mathlib.Omega', [('arith', word('arith'))])
     take('borrow.Author.Needs', [('needs', 'search needs')])
     take('lib.ListN', [(n, word(n)) for n in ('length', 'getD', 'set', 'length-set')])
-    specs = 'Rattle.grid.specs' if crate == 'grid' else 'Rattle.grid.specs'
-    take(specs + '.Loop', [(n, word(n)) for n in LOOP])
-    take(specs + '.LoopLaws', [(n, word(n)) for n in LAWS])
+    if crate == 'grid' or re.search(rf'^{crate}:.*\bgrid\b', open('crates.txt').read(), re.M):
+        specs = 'Rattle.grid.specs' if crate == 'grid' else 'Rattle.grid.specs'
+        take(specs + '.Loop', [(n, word(n)) for n in LOOP])
+        take(specs + '.LoopLaws', [(n, word(n)) for n in LAWS])
     return lines + ['use ' + u for u in uses]
 
 
@@ -157,7 +158,8 @@ def write(crate, fn, printed):
     m = re.search(r'help: write \S*%s with these lines.*?\n((?:    .*\n)+)' % re.escape(full), printed)
     if not m:
         return False
-    text = proof(crate, fn, [line[4:] for line in m.group(1).split('\n')])
+    needs = re.sub(r' =\n +\?\n', ' = ?\n', m.group(1))  # a long head has its hole on a line of its own
+    text = proof(crate, fn, [line[4:] for line in needs.split('\n')])
     open(full, 'w').write(text)
     print(f'{fn}: {text.count(chr(10))} lines')
     return True

@@ -8,9 +8,10 @@ use mathlib.Core.Bool.{Bool, true, false, not, cond, true≢false}
 use borrow.Author.Tests.{lt-ltb, le-ltb, le-leb, lt-leb, ne-eqb, ltb-false}
 use lib.Dec.{T, leb, ltb, eqb}
 use lib.Pow.{pow-pos}
-use lib.Ieee.{Float, nan, inf, fin, binary64, up, down, odd, ofFields, ofBits, toBits, fits, isNan, nanBits}
+use lib.Ieee.{Float, nan, inf, fin, binary64, up, down, odd, ofFields, ofBits, toBits, fits, isNan, nanBits, ne}
 use lib.Ieee.Fits.{down-pos}
 use lib.Ieee.Bits.{nanBits-is, nanBits-above, ofBits-toBits}
+use lib.Ieee.Compare.{nan-differs}
 use lib.Ieee.Exact.{HasValue, odd-sign}
 use lib.Ieee.Positive.{positive, positive-of-value}
 use Rattle.root.specs.Root.{root}
@@ -123,6 +124,11 @@ is-positive x f p l =
 -- a pattern of a value that is no NaN is at most the infinity's, its sign taken off
 pub not-above : (b : ℕ) → isNan (ofBits binary64 b) ≡ false → b % 2 ^ 63 ≤ 0x7ff0_0000_0000_0000
 not-above b h = ltb-false 0x7ff0_0000_0000_0000 (b % 2 ^ 63) (sym (nanBits-above binary64 b) ∙ nanBits-is binary64 b ∙ h)
+
+pub is-no-nan : (x : Float) → ne x x ≡ false → isNan x ≡ false
+is-no-nan nan h = absurd (true≢false (sym nan-differs ∙ h))
+is-no-nan (inf s) h = unfold isNan in refl
+is-no-nan (fin s m e) h = unfold isNan in refl
 
 pub no-nan : (b : ℕ) → b ≤ 0x7ff0_0000_0000_0000 → T (not (nanBits binary64 b))
 no-nan b h = subst (λ (t : Bool). T (not t)) (sym (nanBits-above binary64 b ∙ le-ltb 0x7ff0_0000_0000_0000 (b % 2 ^ 63) (omega arith))) tt

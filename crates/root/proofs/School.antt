@@ -2,7 +2,7 @@
 use mathlib.Core.Path.{_≡_, refl, sym, ap, _∙_}
 use mathlib.Core.Bool.{Bool, true, false, not, cond}
 use Prim.Native.Nat.{ℕ, zero, suc, _+_, _-_, _*_, _/_, _%_, _^_, _≤_, _<_}
-use native.Mathlib.Nat.{mul-assoc, pow-suc, le-trans, mul-le-mul-left}
+use native.Mathlib.Nat.{mod-eq-of-lt, mul-assoc, pow-suc, le-trans, mul-le-mul-left}
 use native.Mathlib.Omega.{arith}
 use native.Mathlib.Numerals.{add-one}
 use lib.Dec.{T, ltb, ltb→lt, nltb→le}
@@ -70,145 +70,151 @@ none = record { s = 0; r = 0 }
 cut : (x a n : ℕ) → x * 2 ^ 62 + a ≡ n * 2 ^ 8 * 4 ^ 53 → a < 2 ^ 62 → x ≡ n * 2 ^ 52
 cut x a n e l = omega arith
 
-pub last : (n : ℕ) (w : Found) → n < 2 ^ 54 → w ≡ digits 53 (n * 2 ^ 8) none → (w .s * w .s + w .r ≡ n * 2 ^ 52) × (w .r ≤ w .s * 2) × (w .s < 2 ^ 53)
+-- no digit falls out at the top
+pub last : (n : ℕ) (w : Found) → n < 2 ^ 54 → w ≡ digits 53 ((n * 2 ^ 8) % 2 ^ 64) none → (w .s * w .s + w .r ≡ n * 2 ^ 52) × (w .r ≤ w .s * 2) × (w .s < 2 ^ 53)
 last n w l e =
+    let f : (n * 2 ^ 8) % 2 ^ 64 ≡ n * 2 ^ 8 = mod-eq-of-lt (omega arith) in
     let p = stands (n * 2 ^ 8) 1 53 0 (n * 2 ^ 8) none (record { rest = omega arith; word = omega arith; small = omega arith; sum = omega arith }) in
-    rw e (cut _ (p .0) n (p .1 .sum) (p .1 .word), p .1 .rest, omega (arith, p .1 .small))
+    rw (e, f) (cut _ (p .0) n (p .1 .sum) (p .1 .word), p .1 .rest, omega (arith, p .1 .small))
 
--- rounded by the remainder
-pub above : (n s r : ℕ) → n < 2 ^ 54 → s * s + r ≡ n * 2 ^ 52 → r ≤ s * 2 → s < r → s + 1 ≡ (whole 54 (n * 2 ^ 54) + 1) / 2
+above : (n s r : ℕ) → n < 2 ^ 54 → s * s + r ≡ n * 2 ^ 52 → r ≤ s * 2 → s < r → s + 1 ≡ (whole 54 (n * 2 ^ 54) + 1) / 2
 above n s r l e h g = halved n (whole 54 (n * 2 ^ 54)) (s + 1) (whole-of n l) (omega (arith, sq-suc s)) (omega (arith, sq-suc s))
 
-pub beside : (n s r : ℕ) → 0 < n → n < 2 ^ 54 → s * s + r ≡ n * 2 ^ 52 → r ≤ s → s ≡ (whole 54 (n * 2 ^ 54) + 1) / 2
+beside : (n s r : ℕ) → 0 < n → n < 2 ^ 54 → s * s + r ≡ n * 2 ^ 52 → r ≤ s → s ≡ (whole 54 (n * 2 ^ 54) + 1) / 2
 beside n s r p l e h = halved n (whole 54 (n * 2 ^ 54)) s (whole-of n l) (omega (arith, some s r e)) (omega arith)
   where
     some : (s r : ℕ) → s * s + r ≡ n * 2 ^ 52 → 0 < s + r
     some zero r e = omega arith
     some (suc s) r e = omega arith
 
+-- rounded by the remainder
+pub nearest : (n : ℕ) (w : Found) → 0 < n → n < 2 ^ 54 → w ≡ digits 53 ((n * 2 ^ 8) % 2 ^ 64) none → cond (ltb (w .s) (w .r)) (w .s + 1) (w .s) ≡ (whole 54 (n * 2 ^ 54) + 1) / 2
+nearest n w p l e = go (ltb (w .s) (w .r)) (ltb→lt (w .s) (w .r)) (nltb→le (w .s) (w .r))
+  where
+    go : (z : Bool) → (T z → w .s < w .r) → (T (not z) → w .r ≤ w .s) → cond z (w .s + 1) (w .s) ≡ (whole 54 (n * 2 ^ 54) + 1) / 2
+    go true less more = above n (w .s) (w .r) l (last n w l e .0) (last n w l e .1) (less tt)
+    go false less more = beside n (w .s) (w .r) p l (last n w l e .0) (more tt)
+
+-- ---- k turns, one after the other
+
+-- Of k turns from `from` on i are done: w is the root and what is left, c what is still to come of n, and the turns left give what the whole gives.
+pub record Turns (k i n : ℕ) (from : Found) (c : ℕ) (w : Found) : Type 0 where
+  pub stand : Stand ((from .s * from .s + from .r) * 2 ^ 62 + n) (from .s + 1) i c w
+  pub same : digits (k - i) c w ≡ digits k n from
+
+pub turns-start : (k n : ℕ) (from : Found) → from .r ≤ from .s * 2 → n < 2 ^ 62 → Turns k 0 n from n from
+turns-start k n from h l =
+    let all : k - 0 ≡ k = omega arith in
+    record { stand = record { rest = h; word = l; small = omega arith; sum = omega arith }; same = ap (λ (x : ℕ). digits x n from) all }
+
+pub turns-again : (k i n c : ℕ) (from w : Found) → Turns k i n from c w → i < k → Turns k (i + 1) n from (c % 2 ^ 60 * 4) (turn (c / 2 ^ 60) w)
+unfolding digits turn
+turns-again k i n c from w h l =
+    let d = w .r * 4 + c / 2 ^ 60 in
+    let t = w .s * 4 + 1 in
+    let j : k - i ≡ suc (k - suc i) = omega arith in
+    rw (add-one i) (record { stand = stand _ _ i c (w .s) (w .r) (ltb d t) (h .stand) (ltb→lt d t) (nltb→le d t); same = rw j at (h .same) })
+
+pub turns-done : (k i n c : ℕ) (from w : Found) → Turns k i n from c w → k ≤ i → w ≡ digits k n from
+unfolding digits
+turns-done k i n c from w h l =
+    let g : k - i ≡ 0 = omega arith in
+    rw g at (h .same)
+
+-- what comes down in the next turn, in the one after it, and then
+pub next-down : (c : ℕ) → c / 2 ^ 58 % 4 ≡ c % 2 ^ 60 * 4 / 2 ^ 60
+next-down c = omega arith
+
+pub next-two : (c : ℕ) → (c * 2 ^ 6) % 2 ^ 64 / 2 ^ 62 ≡ c % 2 ^ 60 * 4 / 2 ^ 58 % 4
+next-two c = omega arith
+
+pub next-pairs : (c : ℕ) → ((c * 2 ^ 6) % 2 ^ 64 * 2 ^ 2) % 2 ^ 64 ≡ (c % 2 ^ 60 * 4 * 2 ^ 6) % 2 ^ 64
+next-pairs c = omega arith
+
 -- ---- the code's turns
 
--- Of k turns i are done: c is what is left of n, its first two digits behind d, the next in two, the others in a; and the turns left give what the whole gives.
-pub record Under (k i n : ℕ) (from : Found) (two a d u t nought : ℕ) : Type 0 where
-  s : ℕ
-  r : ℕ
+-- After i turns, where c is still to come: its first two digits stand behind the remainder d, the next two are ready in `down`, the others stand in `pairs`. The root with 01
+-- behind it is u, that moved up t, and v what it becomes for a digit 0.
+pub record Under (k i n : ℕ) (from : Found) (down pairs d u t v : ℕ) : Type 0 where
   c : ℕ
-  rest : r ≤ s * 2
-  low : c < 2 ^ 62
-  small : s + 1 ≤ (from .s + 1) * 2 ^ i
-  ahead : two ≡ c / 2 ^ 58 % 4
-  shifted : a ≡ (c * 2 ^ 6) % 2 ^ 64
-  brought : d ≡ r * 4 + c / 2 ^ 60
-  root : u ≡ s * 4 + 1
-  moved : t ≡ s * 16 + 4
-  nil : nought ≡ s * 8 + 1
-  same : digits (k - i) c (record { s = s; r = r }) ≡ digits k n from
+  w : Found
+  turns : Turns k i n from c w
+  ahead : down ≡ c / 2 ^ 58 % 4
+  shifted : pairs ≡ (c * 2 ^ 6) % 2 ^ 64
+  brought : d ≡ w .r * 4 + c / 2 ^ 60
+  root : u ≡ w .s * 4 + 1
+  moved : t ≡ w .s * 16 + 4
+  nil : v ≡ w .s * 8 + 1
 
 pub start : (k n : ℕ) (from : Found) → from .r ≤ from .s * 2 → n < 2 ^ 62
     → Under k 0 n from (n / 2 ^ 58 % 4) ((n * 2 ^ 6) % 2 ^ 64) (from .r * 4 + n / 2 ^ 60) (from .s * 4 + 1) (from .s * 16 + 4) (from .s * 8 + 1)
-start k n from h l =
-    let all : k - 0 ≡ k = omega arith in
-    record {
-      s = from .s;
-      r = from .r;
-      c = n;
-      rest = h;
-      low = l;
-      small = omega arith;
-      ahead = refl;
-      shifted = refl;
-      brought = refl;
-      root = refl;
-      moved = refl;
-      nil = refl;
-      same = ap (λ (x : ℕ). digits x n from) all;
-    }
+start k n from h l = record { c = n; w = from; turns = turns-start k n from h l; ahead = refl; shifted = refl; brought = refl; root = refl; moved = refl; nil = refl }
 
--- two digits come down, the next two are taken from the others, and those move up
-down : (c two : ℕ) → two ≡ c / 2 ^ 58 % 4 → c % 2 ^ 60 * 4 / 2 ^ 60 ≡ two
-down c two e = omega arith
-
-next-two : (c a : ℕ) → a ≡ (c * 2 ^ 6) % 2 ^ 64 → a / 2 ^ 62 ≡ (c % 2 ^ 60 * 4) / 2 ^ 58 % 4
-next-two c a e = omega arith
-
-next-others : (c a : ℕ) → a ≡ (c * 2 ^ 6) % 2 ^ 64 → (a * 2 ^ 2) % 2 ^ 64 ≡ (c % 2 ^ 60 * 4 * 2 ^ 6) % 2 ^ 64
-next-others c a e = omega arith
-
-pub again : (k i n two a d u t nought off u' : ℕ) (from : Found) → Under k i n from two a d u t nought → i < k → off ≡ cond (ltb d u) 0 t → u' ≡ cond (ltb d u) nought (u * 2 + 3)
-    → Under k (i + 1) n from (a / 2 ^ 62) ((a * 2 ^ 2) % 2 ^ 64) (d * 4 + two - off) u' (u' * 4) (u' * 2 - 1)
-unfolding digits turn
-again k i n two a d u t nought off u' from h l e f = rw (e, f, add-one i) (go (ltb d u) (ltb→lt d u) (nltb→le d u) next)
+pub again : (k i n down pairs d u t v off u' : ℕ) (from : Found) → Under k i n from down pairs d u t v → i < k → off ≡ cond (not (ltb d u)) t 0 → u' ≡ cond (not (ltb d u)) (u * 2 + 3) v
+    → Under k (i + 1) n from (pairs / 2 ^ 62) ((pairs * 2 ^ 2) % 2 ^ 64) (d * 4 + down - off) u' (u' * 4) (u' * 2 - 1)
+unfolding turn
+again k i n down pairs d u t v off u' from h l e f =
+    rw (e, f) (go (ltb d u) (nltb→le d u) (rw (h .brought, h .root) (turns-again k i n (h .c) from (h .w) (h .turns) l)))
   where
-    next : digits (k - suc i) (h .c % 2 ^ 60 * 4) (cond (ltb d u) (record { s = h .s * 2; r = d }) (record { s = h .s * 2 + 1; r = d - u })) ≡ digits k n from
-    next =
-        let j : k - i ≡ suc (k - suc i) = omega arith in
-        rw (h .brought, h .root) (rw j at (h .same))
-
-    go : (z : Bool) → (T z → d < u) → (T (not z) → u ≤ d)
-        → digits (k - suc i) (h .c % 2 ^ 60 * 4) (cond z (record { s = h .s * 2; r = d }) (record { s = h .s * 2 + 1; r = d - u })) ≡ digits k n from
-        → Under k (suc i) n from (a / 2 ^ 62) ((a * 2 ^ 2) % 2 ^ 64) (d * 4 + two - cond z 0 t) (cond z nought (u * 2 + 3)) (cond z nought (u * 2 + 3) * 4) (cond z nought (u * 2 + 3) * 2 - 1)
-    go true less more same = record {
-      s = h .s * 2;
-      r = d;
+    go : (z : Bool) → (T (not z) → u ≤ d) → Turns k (i + 1) n from (h .c % 2 ^ 60 * 4) (cond z (record { s = h .w .s * 2; r = d }) (record { s = h .w .s * 2 + 1; r = d - u }))
+        → Under k (i + 1) n from (pairs / 2 ^ 62) ((pairs * 2 ^ 2) % 2 ^ 64) (d * 4 + down - cond (not z) t 0) (cond (not z) (u * 2 + 3) v) (cond (not z) (u * 2 + 3) v * 4) (cond (not z) (u * 2 + 3) v * 2 - 1)
+    go true more turns = record {
       c = h .c % 2 ^ 60 * 4;
-      rest = omega (arith, less tt, h .root);
-      low = omega arith;
-      small = omega (arith, h .small, twice (from .s + 1) i);
-      ahead = next-two (h .c) a (h .shifted);
-      shifted = next-others (h .c) a (h .shifted);
-      brought = omega (arith, down (h .c) two (h .ahead));
+      w = record { s = h .w .s * 2; r = d };
+      turns = turns;
+      ahead = rw (h .shifted) (next-two (h .c));
+      shifted = rw (h .shifted) (next-pairs (h .c));
+      brought = omega (arith, h .ahead, next-down (h .c));
       root = omega (arith, h .nil);
       moved = omega (arith, h .nil);
       nil = omega (arith, h .nil);
-      same = same;
     }
-    go false less more same = record {
-      s = h .s * 2 + 1;
-      r = d - u;
+    go false more turns = record {
       c = h .c % 2 ^ 60 * 4;
-      rest = omega (arith, more tt, h .root, h .brought, h .rest, h .low);
-      low = omega arith;
-      small = omega (arith, h .small, twice (from .s + 1) i);
-      ahead = next-two (h .c) a (h .shifted);
-      shifted = next-others (h .c) a (h .shifted);
-      brought = omega (arith, more tt, h .root, h .moved, down (h .c) two (h .ahead));
+      w = record { s = h .w .s * 2 + 1; r = d - u };
+      turns = turns;
+      ahead = rw (h .shifted) (next-two (h .c));
+      shifted = rw (h .shifted) (next-pairs (h .c));
+      brought = omega (arith, more tt, h .root, h .moved, h .ahead, next-down (h .c));
       root = omega (arith, h .root);
       moved = omega (arith, h .root);
       nil = omega (arith, h .root);
-      same = same;
     }
 
-pub done : (k i n two a d u t nought : ℕ) (from : Found) → Under k i n from two a d u t nought → k ≤ i → record { s = u / 4; r = d / 4 } ≡ digits k n from
-unfolding digits
-done k i n two a d u t nought from h l =
-    let e : u / 4 ≡ h .s = omega (arith, h .root) in
-    let f : d / 4 ≡ h .r = omega (arith, h .brought, h .low) in
-    let g : k - i ≡ 0 = omega arith in
-    rw (e, f) (rw g at (h .same))
+-- without the two digits behind each: the root and what is left
+pub shown : (w : Found) (c d u : ℕ) → c < 2 ^ 62 → d ≡ w .r * 4 + c / 2 ^ 60 → u ≡ w .s * 4 + 1 → record { s = u / 4; r = d / 4 } ≡ w
+shown w c d u l e f =
+    let a : u / 4 ≡ w .s = omega arith in
+    let b : d / 4 ≡ w .r = omega arith in
+    rw (a, b)
+
+pub done : (k i n down pairs d u t v : ℕ) (from : Found) → Under k i n from down pairs d u t v → k ≤ i → record { s = u / 4; r = d / 4 } ≡ digits k n from
+done k i n down pairs d u t v from h l = shown (h .w) (h .c) d u (h .turns .stand .word) (h .brought) (h .root) ∙ turns-done k i n (h .c) from (h .w) (h .turns) l
 
 -- before a turn there is room for it
-pub record Ready (two d u t nought : ℕ) : Type 0 where
+pub record Ready (down d u t v : ℕ) : Type 0 where
   pub root : u < 2 ^ 60
   pub rest : d < 2 ^ 59
-  pub ahead : two < 4
-  pub off : cond (ltb d u) 0 t ≤ d * 4
-  pub some : 1 ≤ cond (ltb d u) nought (u * 2 + 3)
-  pub new : cond (ltb d u) nought (u * 2 + 3) < 2 ^ 61
+  pub ahead : down < 4
+  pub off : cond (not (ltb d u)) t 0 ≤ d * 4
+  pub some : 1 ≤ cond (not (ltb d u)) (u * 2 + 3) v
+  pub new : cond (not (ltb d u)) (u * 2 + 3) v < 2 ^ 61
 
-pub ready : (k i n two a d u t nought : ℕ) (from : Found) → Under k i n from two a d u t nought → i < k → (from .s + 1) * 2 ^ k ≤ 2 ^ 57 → Ready two d u t nought
-ready k i n two a d u t nought from h l m =
+pub ready : (k i n down pairs d u t v : ℕ) (from : Found) → Under k i n from down pairs d u t v → i < k → (from .s + 1) * 2 ^ k ≤ 2 ^ 57 → Ready down d u t v
+ready k i n down pairs d u t v from h l m =
     let b : (from .s + 1) * 2 ^ suc i ≤ 2 ^ 57 = le-trans (mul-le-mul-left (from .s + 1) (pow-mono l)) m in
-    let g : h .s < 2 ^ 56 = omega (arith, h .small, twice (from .s + 1) i) in
+    let st = h .turns .stand in
+    let g : h .w .s < 2 ^ 56 = omega (arith, st .small, twice (from .s + 1) i) in
     let e = either (ltb d u) (nltb→le d u) in
     record {
       root = omega (arith, h .root);
-      rest = omega (arith, h .rest, h .brought, h .low);
+      rest = omega (arith, st .rest, h .brought, st .word);
       ahead = omega (arith, h .ahead);
       off = e .0;
       some = e .1;
       new = omega (arith, h .root, h .nil, e .2);
     }
   where
-    either : (z : Bool) → (T (not z) → u ≤ d) → (cond z 0 t ≤ d * 4) × (1 ≤ cond z nought (u * 2 + 3)) × (cond z nought (u * 2 + 3) ≤ u * 2 + 3 + nought)
+    either : (z : Bool) → (T (not z) → u ≤ d) → (cond (not z) t 0 ≤ d * 4) × (1 ≤ cond (not z) (u * 2 + 3) v) × (cond (not z) (u * 2 + 3) v ≤ u * 2 + 3 + v)
     either true more = (omega arith, omega (arith, h .nil), omega arith)
     either false more = (omega (arith, more tt, h .root, h .moved), omega arith, omega arith)

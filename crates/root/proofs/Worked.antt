@@ -5,7 +5,7 @@ use Prim.Native.Nat.{ℕ, zero, suc, _+_, _-_, _*_, _/_, _%_, _^_, _≤_, _<_}
 use native.Mathlib.Nat.{lt-of-lt-of-le, lt-of-not-le, lt-irrefl, le-of-suc-le-suc, zero-mul, zero-div, mul-one, div-one, mul-assoc, mul-div-cancel}
 use native.Mathlib.Omega.{arith}
 use mathlib.Core.Bool.{Bool, true, false, _&&_, cond, true≢false}
-use borrow.Author.Tests.{le-ltb, leb-false}
+use borrow.Author.Tests.{lt-ltb, le-ltb, leb-false}
 use lib.IntN.{ℤ, pos, negsuc}
 use lib.Dec.{T, leb, ltb, eqb, ltb→lt, leb→le}
 use lib.Pow.{pow-add, pow-pos, pow-lt}
@@ -19,7 +19,7 @@ use Rattle.root.specs.Parts.{sig, exp, even, rootBits}
 use Rattle.root.specs.Nearest.{counted}
 use Rattle.root.proofs.Whole.{Is}
 use Rattle.root.proofs.Fields.{val, split, paired, whole-of, whole-lt, rootBits-is}
-use Rattle.root.proofs.Patterns.{ofBits-is, bits-value, fields-value, fields-top, units-of, top-or-less}
+use Rattle.root.proofs.Patterns.{ofBits-is, bits-value, fields-value, fields-top, units-of, top-or-less, is-positive}
 use Rattle.root.proofs.Middle.{s-ge, q-ge, q-lt}
 
 -- ---- units
@@ -92,6 +92,20 @@ pattern x f p =
   where
     above-zero : (b : ℕ) → (b ≡ 0 → ⊥) → 0 < b
     above-zero b h = omega arith
+
+-- a number is finite and above zero by its pattern
+pub positive-is : (x : Float) → T (fits binary64 x) → (ltb 0 (toBits binary64 x) && ltb (toBits binary64 x) 0x7ff0_0000_0000_0000) ≡ positive x
+positive-is x f = go (positive x) (pattern x f) (is-positive x f)
+  where
+    none : (b : ℕ) (s t : Bool) → (T s → 0 < b) → (T t → b < 0x7ff0_0000_0000_0000) → (0 < b → b < 0x7ff0_0000_0000_0000 → ⊥) → (s && t) ≡ false
+    none b true true h k q = absurd (q (h tt) (k tt))
+    none b true false h k q = refl
+    none b false t h k q = refl
+
+    go : (z : Bool) → (T z → (0 < toBits binary64 x) × (toBits binary64 x < 0x7ff0_0000_0000_0000)) → (0 < toBits binary64 x → toBits binary64 x < 0x7ff0_0000_0000_0000 → T z)
+        → (ltb 0 (toBits binary64 x) && ltb (toBits binary64 x) 0x7ff0_0000_0000_0000) ≡ z
+    go true p q = rw (lt-ltb _ _ (p tt .0), lt-ltb _ _ (p tt .1))
+    go false p q = none (toBits binary64 x) (ltb 0 (toBits binary64 x)) (ltb (toBits binary64 x) 0x7ff0_0000_0000_0000) (ltb→lt 0 (toBits binary64 x)) (ltb→lt (toBits binary64 x) 0x7ff0_0000_0000_0000) q
 
 -- ---- the root's units
 

@@ -4,6 +4,8 @@ pub mod SkipTest
 pub mod Sweep
 pub mod SweepSteps
 pub mod SweepLengths
+pub mod Turned
+pub mod PairsApart
 -- The values of a run, and what the marks look at.
 pub mod SingularValues
 pub mod SingularValuesSteps

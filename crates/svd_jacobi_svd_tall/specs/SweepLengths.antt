@@ -1,11 +1,14 @@
 -- A sweep keeps the length of the work array, which its functions ask for. Laws only.
 use mathlib.Core.Path.{_≡_}
 use mathlib.Core.Bool.{Bool, true, false, cond}
-use Prim.Native.Nat.{ℕ, _+_, _*_, _≤_}
+use Prim.Native.Nat.{ℕ, _+_, _*_, _≤_, _<_}
+use native.Mathlib.Nat.{mul-comm}
+use native.Mathlib.Omega.{arith}
 use lib.ListN.{length, length-set}
 use Rattle.grid.specs.Loop.{upto}
 use Rattle.grid.specs.LoopLaws.{upto-keeps}
 use Rattle.grid.specs.Real.{Vec}
+use Rattle.grid.specs.TableLaws.{row-end}
 use Rattle.svd_jacobi_svd_tall.specs.declared.sweep.Rotation.{Rotation}
 use Rattle.svd_jacobi_svd_tall.specs.Sweep.{uAt, vAt, gram, skipped, rotationOf, rotated, pairDone, pairsOf, sweep}
 use Rattle.svd_jacobi_svd_tall.specs.SweepSteps.{rotateStep}
@@ -15,6 +18,13 @@ pub record Sized (rows cols : ℕ) (w : Vec) : Type 0 where
   pub tall : rows ≤ 256
   pub wide : cols ≤ 256
   pub whole : length w ≡ rows * cols + cols * cols + cols
+
+-- column c of u stands within it, and column c of v
+pub u-inside : (rows cols c : ℕ) (w : Vec) → c < cols → Sized rows cols w → uAt rows c + rows ≤ length w
+u-inside rows cols c w h s = omega (arith, s .whole, row-end cols rows c h, mul-comm cols rows)
+
+pub v-inside : (rows cols c : ℕ) (w : Vec) → c < cols → Sized rows cols w → vAt rows cols c + cols ≤ length w
+v-inside rows cols c w h s = omega (arith, s .whole, row-end cols cols c h)
 
 module _ (n : ℕ) where
   pub keeps : (f : ℕ → Vec → Vec) (a b : ℕ) (w : Vec) → ((i : ℕ) (x : Vec) → length x ≡ n → length (f i x) ≡ n) → length w ≡ n → length (upto f a b w) ≡ n

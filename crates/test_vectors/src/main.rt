@@ -1,6 +1,6 @@
 // Reads numbers by their bits, 16 hexadecimal digits each. For a line with one it writes the root, for a line with two their hypot, by its bits too, or
-// "nan": the scope's rule where a blank stands between them, and the correctly rounded one where a plus does. What is read and what must be written are made by
-// tests/vectors/make.rs and tests/vectors/hypot2.py.
+// "nan": the scope's rule where a blank stands between them, and the correctly rounded one where a plus does. Where < or > stands there it writes the root of the first or
+// of the second, worked out beside the other's. What is read and what must be written are made by tests/vectors/make.rs and tests/vectors/hypot2.py.
 ghost use Prim.Native.Nat.{_+_, _≤_, _<_};
 ghost use lib.ListN.{length};
 
@@ -40,8 +40,16 @@ fn show(y: f64) {
     }
 }
 
-// hypot of two numbers with that byte between them.
-fn length(between: u8, x: f64, y: f64) -> f64 {
+// What is written for two numbers with that byte between them.
+fn answer(between: u8, x: f64, y: f64) -> f64 {
+    if between == b'<' {
+        let w = root::side_by_side::roots(x, y);
+        return w.first;
+    }
+    if between == b'>' {
+        let w = root::side_by_side::roots(x, y);
+        return w.second;
+    }
     if between == b'+' {
         return hypot::pythag(2, x, y);
     }
@@ -64,7 +72,7 @@ fn line(s: &[u8], at: usize) -> usize
     if left < 34 {
         return s.len();
     }
-    show(length(s[at + 16], number(word(s, at)), number(word(s, at + 17))));
+    show(answer(s[at + 16], number(word(s, at)), number(word(s, at + 17))));
     at + 34
 }
 

@@ -2,6 +2,7 @@
 -- `root::digits` meets its contract.
 use Prim.Native.Nat.{ℕ, _+_, _-_, _*_, _^_, _<_, _≤_}
 use native.Mathlib.Omega.{arith}
+use borrow.Author.Needs.{needs}
 use native.Mathlib.Nat.{mul-le-mul-left}
 use lib.Pow.{pow-pos}
 use Rattle.root.proofs.School.{Under, Ready, start, again, done, ready}
@@ -12,73 +13,79 @@ wide : (s k : ℕ) → (s + 1) * 2 ^ k ≤ 2 ^ 57 → s < 2 ^ 57
 wide s k h = omega (arith, mul-le-mul-left (s + 1) (pow-pos k))
 
 abbrev Inv-loop : tie.InvT-loop
-Inv-loop s r n k two₀ a₀ d₀ u₀ t₀ nought₀ i₀ two a d u t nought i = (i ≤ k) × Under k i n (record { s = s; r = r }) two a d u t nought × (i < k → Ready two d u t nought)
+Inv-loop s r n k down₀ pairs₀ remainder₀ with-01₀ moved-up₀ after-0₀ turn₀ down pairs remainder with-01 moved-up after-0 turn = (turn ≤ k) × Under k turn n (record { s = s; r = r }) down pairs remainder with-01 moved-up after-0 × (turn < k → Ready down remainder with-01 moved-up after-0)
 
 abbrev μ-loop : tie.MeasureT-loop
-μ-loop s r n k two₀ a₀ d₀ u₀ t₀ nought₀ i₀ two a d u t nought i = k - i
+μ-loop s r n k down₀ pairs₀ remainder₀ with-01₀ moved-up₀ after-0₀ turn₀ down pairs remainder with-01 moved-up after-0 turn = k - turn
 
-mul-d : tie.Need-mul-d Inv-loop μ-loop
-mul-d c = omega (arith, wide (c .args .s) (c .args .k) (c .pre .2))
+mul-remainder : tie.Need-mul-remainder Inv-loop μ-loop
+mul-remainder c = omega (arith, wide (c .args .s) (c .args .k) (c .pre .2))
 
-add-d : tie.Need-add-d Inv-loop μ-loop
-add-d c = omega (arith, wide (c .args .s) (c .args .k) (c .pre .2))
+add-remainder : tie.Need-add-remainder Inv-loop μ-loop
+add-remainder c = omega (arith, wide (c .args .s) (c .args .k) (c .pre .2))
 
-mul-u : tie.Need-mul-u Inv-loop μ-loop
-mul-u c = omega (arith, wide (c .args .s) (c .args .k) (c .pre .2))
+mul-with-01 : tie.Need-mul-with-01 Inv-loop μ-loop
+mul-with-01 c = omega (arith, wide (c .args .s) (c .args .k) (c .pre .2))
 
-add-u : tie.Need-add-u Inv-loop μ-loop
-add-u c = omega (arith, wide (c .args .s) (c .args .k) (c .pre .2))
+add-with-01 : tie.Need-add-with-01 Inv-loop μ-loop
+add-with-01 c = omega (arith, wide (c .args .s) (c .args .k) (c .pre .2))
 
-mul-t : tie.Need-mul-t Inv-loop μ-loop
-mul-t c = omega (arith, wide (c .args .s) (c .args .k) (c .pre .2))
+mul-moved-up : tie.Need-mul-moved-up Inv-loop μ-loop
+mul-moved-up c = omega (arith, wide (c .args .s) (c .args .k) (c .pre .2))
 
-add-t : tie.Need-add-t Inv-loop μ-loop
-add-t c = omega (arith, wide (c .args .s) (c .args .k) (c .pre .2))
+add-moved-up : tie.Need-add-moved-up Inv-loop μ-loop
+add-moved-up c = omega (arith, wide (c .args .s) (c .args .k) (c .pre .2))
 
-mul-nought : tie.Need-mul-nought Inv-loop μ-loop
-mul-nought c = omega (arith, wide (c .args .s) (c .args .k) (c .pre .2))
+mul-after-0 : tie.Need-mul-after-0 Inv-loop μ-loop
+mul-after-0 c = omega (arith, wide (c .args .s) (c .args .k) (c .pre .2))
 
-add-nought : tie.Need-add-nought Inv-loop μ-loop
-add-nought c = omega (arith, wide (c .args .s) (c .args .k) (c .pre .2))
+add-after-0 : tie.Need-add-after-0 Inv-loop μ-loop
+add-after-0 c = omega (arith, wide (c .args .s) (c .args .k) (c .pre .2))
 
 loop-holds : tie.Need-loop-holds Inv-loop μ-loop
 loop-holds c =
     let u = start (c .args .k) (c .args .n) (record { s = c .args .s; r = c .args .r }) (c .pre .0) (c .pre .1) in
     (omega arith, u, λ h. ready _ _ _ _ _ _ _ _ _ _ u h (c .pre .2))
 
-taken-requires : tie.Need-taken-requires Inv-loop μ-loop
-taken-requires c κs = omega (arith, c .before .loop .inv .2 (omega arith))
+chosen-requires : tie.Need-chosen-requires Inv-loop μ-loop
+chosen-requires c κs = search needs
 
-next-requires : tie.Need-next-requires Inv-loop μ-loop
-next-requires c κs = omega (arith, c .before .before .loop .inv .2 (omega arith))
+mul-chosen : tie.Need-mul-chosen Inv-loop μ-loop
+mul-chosen c = omega (arith, c .before .before .loop .inv .2 (omega arith))
 
-mul-t-2 : tie.Need-mul-t-2 Inv-loop μ-loop
-mul-t-2 c = omega (arith, c .before .before .before .loop .inv .2 (omega arith), c .next .ensures)
+add-chosen : tie.Need-add-chosen Inv-loop μ-loop
+add-chosen c = omega (arith, c .before .before .loop .inv .2 (omega arith))
 
-mul-nought-2 : tie.Need-mul-nought-2 Inv-loop μ-loop
-mul-nought-2 c = omega (arith, c .before .before .before .loop .inv .2 (omega arith), c .next .ensures)
+chosen-requires-2 : tie.Need-chosen-requires-2 Inv-loop μ-loop
+chosen-requires-2 c κs = search needs
 
-sub-nought : tie.Need-sub-nought Inv-loop μ-loop
-sub-nought c = omega (arith, c .before .before .before .loop .inv .2 (omega arith), c .next .ensures)
+mul-moved-up-2 : tie.Need-mul-moved-up-2 Inv-loop μ-loop
+mul-moved-up-2 c = omega (arith, c .before .before .before .loop .inv .2 (omega arith), c .chosen2 .ensures)
 
-mul-d-2 : tie.Need-mul-d-2 Inv-loop μ-loop
-mul-d-2 c = omega (arith, c .before .before .before .loop .inv .2 (omega arith))
+mul-after-0-2 : tie.Need-mul-after-0-2 Inv-loop μ-loop
+mul-after-0-2 c = omega (arith, c .before .before .before .loop .inv .2 (omega arith), c .chosen2 .ensures)
 
-add-d-2 : tie.Need-add-d-2 Inv-loop μ-loop
-add-d-2 c = omega (arith, c .before .before .before .loop .inv .2 (omega arith))
+sub-after-0 : tie.Need-sub-after-0 Inv-loop μ-loop
+sub-after-0 c = omega (arith, c .before .before .before .loop .inv .2 (omega arith), c .chosen2 .ensures)
 
-sub-d : tie.Need-sub-d Inv-loop μ-loop
-sub-d c = omega (arith, c .before .before .before .loop .inv .2 (omega arith), c .before .taken .ensures)
+mul-remainder-2 : tie.Need-mul-remainder-2 Inv-loop μ-loop
+mul-remainder-2 c = omega (arith, c .before .before .before .loop .inv .2 (omega arith))
 
-add-i : tie.Need-add-i Inv-loop μ-loop
-add-i c = omega arith
+add-remainder-2 : tie.Need-add-remainder-2 Inv-loop μ-loop
+add-remainder-2 c = omega (arith, c .before .before .before .loop .inv .2 (omega arith))
+
+sub-remainder : tie.Need-sub-remainder Inv-loop μ-loop
+sub-remainder c = omega (arith, c .before .before .before .loop .inv .2 (omega arith), c .before .chosen .ensures)
+
+add-turn : tie.Need-add-turn Inv-loop μ-loop
+add-turn c = omega arith
 
 loop-less : tie.Need-loop-less Inv-loop μ-loop
 loop-less c = omega arith
 
 loop-again : tie.Need-loop-again Inv-loop μ-loop
 loop-again c =
-    let u = again _ _ _ _ _ _ _ _ _ _ _ _ (c .before .before .before .loop .inv .1) (omega arith) (c .before .taken .ensures) (c .next .ensures) in
+    let u = again _ _ _ _ _ _ _ _ _ _ _ _ (c .before .before .before .loop .inv .1) (omega arith) (c .before .chosen .ensures) (c .chosen2 .ensures) in
     (omega arith, u, λ h. ready _ _ _ _ _ _ _ _ _ _ u h (c .before .before .before .before .pre .2))
 
 returns : tie.Need-returns Inv-loop μ-loop
@@ -90,24 +97,26 @@ digits-spec =
     (tie.spec
     Inv-loop
     μ-loop
-    mul-d
-    add-d
-    mul-u
-    add-u
-    mul-t
-    add-t
-    mul-nought
-    add-nought
+    mul-remainder
+    add-remainder
+    mul-with-01
+    add-with-01
+    mul-moved-up
+    add-moved-up
+    mul-after-0
+    add-after-0
     loop-holds
-    taken-requires
-    next-requires
-    mul-t-2
-    mul-nought-2
-    sub-nought
-    mul-d-2
-    add-d-2
-    sub-d
-    add-i
+    chosen-requires
+    mul-chosen
+    add-chosen
+    chosen-requires-2
+    mul-moved-up-2
+    mul-after-0-2
+    sub-after-0
+    mul-remainder-2
+    add-remainder-2
+    sub-remainder
+    add-turn
     loop-less
     loop-again
     returns)

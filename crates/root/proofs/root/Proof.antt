@@ -2,20 +2,20 @@
 use mathlib.Core.Path.{_≡_, refl, sym, ap, _∙_, subst}
 use Prim.Native.Nat.{ℕ, _%_, _^_, _≤_, _<_}
 use native.Mathlib.Omega.{arith}
-use mathlib.Core.Bool.{Bool, true, false, not, true≢false}
+use mathlib.Core.Bool.{Bool, true, false, not}
 use borrow.Author.Needs.{needs}
 use lib.Dec.{T}
-use lib.Ieee.{Float, nan, inf, fin, binary64, ne, isNan, fits, ofBits, toBits}
+use lib.Ieee.{Float, nan, binary64, ne, isNan, fits, ofBits, toBits}
 use Rattle.root.specs.Root.{root}
 use Rattle.root.specs.Parts.{rootBits}
 use Rattle.root.specs.Nearest.{Nearest}
 use lib.Ieee.Positive.{positive}
 use lib.Ieee.Bits.{ofBits-toBits, toBits-lt}
-use lib.Ieee.Compare.{differs-from-itself, nan-differs}
+use lib.Ieee.Compare.{differs-from-itself}
 use Rattle.root.proofs.Nearest.{root-nearest}
 use Rattle.root.proofs.Fields.{rootBits-le}
 use Rattle.root.proofs.Rounds.{root-is}
-use Rattle.root.proofs.Patterns.{root-above, is-positive, not-above, no-nan}
+use Rattle.root.proofs.Patterns.{root-above, is-positive, not-above, is-no-nan, no-nan}
 use Rattle.root.proofs.root.Statement.{statement}
 use Rattle.root.proofs.root.Tie as tie
 
@@ -29,11 +29,6 @@ both x r f e = (e, λ p. subst (λ (y : Float). Nearest x y) (sym e) (root-neare
 of-nan : (x : Float) → ne x x ≡ true → nan ≡ root x
 unfolding root
 of-nan x h = subst (λ (y : Float). nan ≡ root y) (sym (differs-from-itself x (subst T (sym h) tt))) refl
-
-is-no-nan : (x : Float) → ne x x ≡ false → isNan x ≡ false
-is-no-nan nan h = absurd (true≢false (sym nan-differs ∙ h))
-is-no-nan (inf s) h = unfold isNan in refl
-is-no-nan (fin s m e) h = unfold isNan in refl
 
 -- x by its pattern b
 by-bits : (P : Float → Type 0) (x : Float) (b : ℕ) → T (fits binary64 x) → toBits binary64 x ≡ b → P (ofBits binary64 b) → P x

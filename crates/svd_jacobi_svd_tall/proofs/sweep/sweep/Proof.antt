@@ -5,9 +5,10 @@ use Prim.Native.Nat.{_-_, _≤_}
 use native.Mathlib.Omega.{arith}
 use borrow.Author.Needs.{needs}
 use Rattle.grid.specs.Loop.{upto}
-use Rattle.grid.specs.LoopLaws.{start, next, done}
+use Rattle.grid.specs.LoopLaws.{start}
 use Rattle.svd_jacobi_svd_tall.specs.Sweep.{pairsOf, sweep}
 use Rattle.svd_jacobi_svd_tall.specs.SweepLengths.{Sized}
+use Rattle.svd_jacobi_svd_tall.proofs.sweep.TwoRows.{two-more, all-rows}
 use Rattle.svd_jacobi_svd_tall.proofs.sweep.sweep.Statement.{statement}
 use Rattle.svd_jacobi_svd_tall.proofs.sweep.sweep.Tie as tie
 
@@ -20,8 +21,11 @@ abbrev μ-loop : tie.MeasureT-loop
 loop-holds : tie.Need-loop-holds Inv-loop μ-loop
 loop-holds c = (omega arith, search needs, start _ _ _)
 
-pairs-of-requires : tie.Need-pairs-of-requires Inv-loop μ-loop
-pairs-of-requires c κs = search needs
+add-loop : tie.Need-add-loop Inv-loop μ-loop
+add-loop c = omega arith
+
+two-rows-requires : tie.Need-two-rows-requires Inv-loop μ-loop
+two-rows-requires c κs = search needs
 
 add-p : tie.Need-add-p Inv-loop μ-loop
 add-p c = omega arith
@@ -30,14 +34,14 @@ loop-less : tie.Need-loop-less Inv-loop μ-loop
 loop-less c = omega arith
 
 loop-again : tie.Need-loop-again Inv-loop μ-loop
-loop-again c = (omega arith, search needs, next _ _ _ _ (omega arith) (c .before .before .before .before .before .loop .inv .2) (c .before .before .pairs-of .ensures))
+loop-again c = (omega arith, search needs, two-more _ _ _ _ (c .before .before .before .before .before .loop .inv .2) (c .before .before .two-rows .ensures))
 
 same-length : tie.Need-same-length Inv-loop μ-loop
 same-length c = omega arith
 
 returns : tie.Need-returns Inv-loop μ-loop
 unfolding sweep
-returns c = done _ _ _ (omega arith) (omega arith) (c .before .loop .inv .2)
+returns c = all-rows _ _ _ _ (c .before .loop .inv .0) (omega arith) (c .before .loop .inv .2)
 
 pub sweep-spec : {M : Type 1} → statement M
 sweep-spec =
@@ -46,7 +50,8 @@ sweep-spec =
     Inv-loop
     μ-loop
     loop-holds
-    pairs-of-requires
+    add-loop
+    two-rows-requires
     add-p
     loop-less
     loop-again
