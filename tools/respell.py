@@ -28,6 +28,16 @@ def lemma_files():
             yield path
 
 
+def of_libraries():
+    """The names that some file brings in from a library: those keep its spelling."""
+    own, found = set(os.listdir('crates')), set()
+    for path in glob.glob('crates/*/*/**/*.antt', recursive=True) + glob.glob('crates/*/src/**/*.rt', recursive=True):
+        for m in re.finditer(r'\buse ([\w.·]+)\.\{([^}]*)\}', open(path, encoding='utf-8').read()):
+            if not (m.group(1).startswith('Rattle.') and m.group(1).split('.')[1] in own):
+                found |= {word for part in m.group(2).split(',') for word in part.split() if word != 'as'}
+    return found
+
+
 def table():
     names = set()
     for path in lemma_files():
@@ -41,7 +51,8 @@ def table():
         plain = name[0].isupper() and '-' not in name and '′' not in name
         if not plain and re.search(r'[a-z0-9][A-Z]|-|′', name) and re.match(r"^\w[\w'′+-]*$", name):
             new[name] = FORCED.get(name, snake(name))
-    new = {a: b for a, b in new.items() if a != b}
+    kept = of_libraries()
+    new = {a: b for a, b in new.items() if a != b and a not in kept}
     taken = collections.defaultdict(set)
     for a, b in new.items():
         taken[b].add(a)

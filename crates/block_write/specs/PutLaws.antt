@@ -6,7 +6,7 @@ use Rattle.std.proofs.Math.Bool.{true, false, cond}
 use mathlib.Core.List.{List, [], ◌∷◌, ◌++◌, append-nil, append_assoc, map}
 use Prim.Native.Nat.{ℕ, suc, ◌+◌, ◌*◌, ◌≤◌, ◌<◌}
 use native.Mathlib.Omega.{arith}
-use borrow.Author.Tests.{ltb-true, ltb-false, eqb-true, eqb-false, lt_ltb, le-ltb, eq-eqb}
+use borrow.Author.Tests.{ltb-true, ltb-false, eqb-true, eqb-false, lt-ltb, le-ltb, eq-eqb}
 use Rattle.std.proofs.Math.Dec.{ltb, eqb}
 use Rattle.std.proofs.Math.ListN.{length}
 use Rattle.std.proofs.lemmas.List.{length-map, length-replicate}
@@ -100,17 +100,17 @@ module _ {A : Type 0} (count : ℕ) (a b c : A) where
 
   pub given_none : count < 1 → given count a b c ≡ []
   unfolding given
-  given_none h = rw (lt_ltb count 1 h)
+  given_none h = rw (lt-ltb count 1 h)
 
   pub given_one : 1 ≤ count → count < 2 → given count a b c ≡ a ∷ []
   unfolding given
-  given_one g h = rw (le-ltb count 1 g, lt_ltb count 2 h)
+  given_one g h = rw (le-ltb count 1 g, lt-ltb count 2 h)
 
   pub given_two : 2 ≤ count → count < 3 → given count a b c ≡ a ∷ b ∷ []
   unfolding given
   given_two g h =
       let f : 1 ≤ count = omega arith in
-      rw (le-ltb count 1 f, le-ltb count 2 g, lt_ltb count 3 h)
+      rw (le-ltb count 1 f, le-ltb count 2 g, lt-ltb count 3 h)
 
   pub given_three : 3 ≤ count → given count a b c ≡ a ∷ b ∷ c ∷ []
   unfolding given

@@ -1,6 +1,6 @@
 -- The sums of the bands in a list of their own, and the matrix as it stands before and after an entry is stored: shapes that inner contracts cite. Laws only.
 use Rattle.std.specs.Prelude.{◌≡◌, false, cond, List, ℕ, ◌+◌, ◌*◌, ◌≤◌, ◌<◌, ℤ, pos, length, get_or, set}
-use Rattle.std.proofs.Common.{ap, sym, subst, ◌∙◌, ⊎_elim, eq-or-lt_of_le, arith, get_or-set_same, get_or_set_other}
+use Rattle.std.proofs.Common.{ap, sym, subst, ◌∙◌, ⊎_elim, eq-or-lt_of_le, arith, get_or-set_same, get_or-set_other}
 use Rattle.std.specs.Float.{binary64}
 use Rattle.std.specs.Float.Ieee.{of_int}
 use Rattle.grid.specs.Real.{Vec}
@@ -39,7 +39,7 @@ one_more n N samples sums {t} r l h k e g q = record { known = λ j m. ⊎_elim 
 
     there : (j : ℕ) → j < n → Known N samples t j
     there j m =
-        let o : get_or t j (pos 0) ≡ get_or sums j (pos 0) = ap (λ (v : List ℤ). get_or v j (pos 0)) q ∙ get_or_set_other sums n j (held r) (pos 0) (λ s. omega arith) in
+        let o : get_or t j (pos 0) ≡ get_or sums j (pos 0) = ap (λ (v : List ℤ). get_or v j (pos 0)) q ∙ get_or-set_other sums n j (held r) (pos 0) (λ s. omega arith) in
         record { is = o ∙ (k.known j m).is; range = subst (Range (N * 32767) (N * 32768)) (sym o) (k.known j m).range }
 
 pub all_known : {j n : ℕ} (N : ℕ) (samples sums : List ℤ) → n ≤ j → Totals j N samples sums → Totals n N samples sums

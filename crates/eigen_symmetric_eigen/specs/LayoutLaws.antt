@@ -1,6 +1,6 @@
 -- `columns` has each entry of a matrix in its cell (`columns_cell`), and so has a copy row by row (`copied`). Laws only.
 use Rattle.std.specs.Prelude.{◌≡◌, ℕ, zero, suc, ◌+◌, ◌*◌, ◌/◌, ◌%◌, ◌<◌, length}
-use Rattle.std.proofs.Common.{sym, ap, ◌∙◌, subst, div-add-mod', mod-lt, div-lt_iff_lt-mul, arith, length-set, get_or_set_other, ext_get_or}
+use Rattle.std.proofs.Common.{sym, ap, ◌∙◌, subst, div-add-mod', mod-lt, div-lt_iff_lt-mul, arith, length-set, get_or-set_other, ext_get_or}
 use Rattle.std.proofs.Math.Decide.{ℕ_discrete}
 use Rattle.std.specs.Float.{nan}
 use Rattle.grid.specs.Loop.{upto}
@@ -63,7 +63,7 @@ module _ (n : ℕ) (a : Vec) where
         | yes e ↦
             let o = one_place n r c i j s p e in
             ap (at (copy_row_step n a i j v)) e ∙ put_here v n i j (entry a n i j) h.long p q ∙ (λ k. entry a n (sym o.0 k) (sym o.1 k))
-        | no d ↦ get_or_set_other v (j * n + i) (c * n + r) (entry a n i j) nan d ∙ h.same r c s t (earlier r c d w)
+        | no d ↦ get_or-set_other v (j * n + i) (c * n + r) (entry a n i j) nan d ∙ h.same r c s t (earlier r c d w)
       ]
 
   copy_row_lem : (i : ℕ) (v : Vec) → i < n → Copied i 0 v → Copied (i + 1) 0 (copy_row n a i v)

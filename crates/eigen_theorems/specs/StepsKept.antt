@@ -1,7 +1,7 @@
 -- What a run made by a start and steps keeps between steps (`Open`, `Body`), and what a step comes to (`step_next`): it goes on, with one pass more or behind the last l, or a mark or the limit has ended it. Laws only.
 -- So none of what 13 refuses ever comes about (`in_range_lem`, `is_sound`).
 use Rattle.std.specs.Prelude.{◌≡◌, refl, ◌⊎◌, Bool, true, false, cond, not, ◌&&◌, ◌||◌, ◌++◌, ℕ, ◌+◌, ◌-◌, ◌*◌, ◌≤◌, ◌<◌, ltb, eqb, Float, length, take, drop}
-use Rattle.std.proofs.Common.{sym, ap, ◌∙◌, subst, inl, inr, ⊎_elim, arith, ltb-true, ltb-false, lt_ltb, le-leb, eq-eqb, length-set, length-drop, get_or-set_same, get_or_set_other, get_or-take, get_or-drop}
+use Rattle.std.proofs.Common.{sym, ap, ◌∙◌, subst, inl, inr, ⊎_elim, arith, ltb-true, ltb-false, lt-ltb, le-leb, eq-eqb, length-set, length-drop, get_or-set_same, get_or-set_other, get_or-take, get_or-drop}
 use Rattle.std.proofs.Math.Decide.{ℕ_discrete}
 use Rattle.std.proofs.lemmas.Bool.{eqb-false}
 use Rattle.std.specs.Float.{nan}
@@ -49,10 +49,10 @@ left_body n x h b =
       grows = b.grows;
       last = elim (ℕ_discrete (n - 1) l) [
         | yes q ↦ rw q (rw (get_or-set_same x.3 l zero64 nan (omega (arith, b.sized.beside))) nought_zero)
-        | no q ↦ rw (get_or_set_other x.3 l (n - 1) zero64 nan q) b.last
+        | no q ↦ rw (get_or-set_other x.3 l (n - 1) zero64 nan q) b.last
       ];
-      values = λ k p q. rw (get_or_set_other x.2 l k (at x.2 l ⊕ x.0.f) nan (λ e. omega arith)) (b.values k (omega arith) q);
-      besides = λ k p q. rw (get_or_set_other x.3 l k zero64 nan (λ e. omega arith)) (b.besides k (omega arith) q);
+      values = λ k p q. rw (get_or-set_other x.2 l k (at x.2 l ⊕ x.0.f) nan (λ e. omega arith)) (b.values k (omega arith) q);
+      besides = λ k p q. rw (get_or-set_other x.3 l k zero64 nan (λ e. omega arith)) (b.besides k (omega arith) q);
     }
 
 come_body : (n : ℕ) (x : State) → Body n x → Body n (come n x)
@@ -202,11 +202,11 @@ step_next n limit edition x o b = from (found_found n limit (Body n) (left_body 
 pub in_range_lem : (n limit edition : ℕ) (r : Run) → 0 < n → n ≤ 256 → limit_good limit ≡ true → edition_good edition ≡ true → Open n limit r → in_range n limit edition r ≡ true
 unfolding in_range
 in_range_lem n limit edition r z s a e o =
-    simp (le-leb 1 n z, le-leb n 256 s, a, e, le-leb r.l n o.at_most, lt_ltb r.m n o.within, lt_ltb r.passes limit o.fewer, le-leb r.passes r.count o.counted, le-leb r.count (r.l * limit + r.passes) o.bounded, eq-eqb r.index 0 o.unmarked) (go (eqb r.passes 0) refl)
+    simp (le-leb 1 n z, le-leb n 256 s, a, e, le-leb r.l n o.at_most, lt-ltb r.m n o.within, lt-ltb r.passes limit o.fewer, le-leb r.passes r.count o.counted, le-leb r.count (r.l * limit + r.passes) o.bounded, eq-eqb r.index 0 o.unmarked) (go (eqb r.passes 0) refl)
   where
     go : (t : Bool) → eqb r.passes 0 ≡ t → (eqb r.passes 0 || ltb r.l r.m) ≡ true
     go true t = λ i. t i || ltb r.l r.m
-    go false t = (λ i. t i || ltb r.l r.m) ∙ lt_ltb r.l r.m (o.above (eqb-false _ _ t))
+    go false t = (λ i. t i || ltb r.l r.m) ∙ lt-ltb r.l r.m (o.above (eqb-false _ _ t))
 
 -- the parts that are looked at, of e in work and of d in front of the result
 pub is_sound : (n : ℕ) (r : Run) (work result : Vec) → n ≤ length result → r.l ≤ n → Body n (r, drop n result, take n result, work) → sound n r work result ≡ true

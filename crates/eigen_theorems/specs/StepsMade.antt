@@ -2,11 +2,11 @@
 -- A start makes it, a step keeps it, and a finish then gives the one call's outcome.
 use Rattle.std.specs.Prelude.{◌≡◌, ◌⊎◌, Bool, not, ◌&&◌, ◌++◌, ltb, Float, set, take, drop}
 use Rattle.std.proofs.Math.Path.{refl, sym, ap}
-use Rattle.std.proofs.Common.{◌∙◌, subst, ⊎_elim, true≢false, suc-mul, mul-le-mul_right, arith, length-set, length-append, get_or-set_same, get_or_set_other, take_at, drop_at}
+use Rattle.std.proofs.Common.{◌∙◌, subst, ⊎_elim, true≢false, suc-mul, mul-le-mul_right, arith, length-set, length-append, get_or-set_same, get_or-set_other, take_at, drop_at}
 use Rattle.std.proofs.Math.Bool.{true, false, cond}
 use Prim.Native.Nat.{ℕ, zero, suc, ◌+◌, ◌-◌, ◌*◌, ◌≤◌, ◌<◌}
 use Rattle.std.proofs.Math.Decide.{ℕ_discrete}
-use borrow.Author.Tests.{ltb-true, ltb-false, lt_ltb, le-ltb, eq-eqb, eqb-true, eqb-false, not-false}
+use borrow.Author.Tests.{ltb-true, ltb-false, lt-ltb, le-ltb, eq-eqb, eqb-true, eqb-false, not-false}
 use Rattle.std.proofs.Math.Dec.{eqb}
 use Rattle.std.specs.Float.{nan}
 use Rattle.std.specs.Float.Ieee.{of_bits}
@@ -132,7 +132,7 @@ module _ (n limit edition : ℕ) (x : State) (f : Fit n limit edition) (o : Open
 
   early_is : x.0.l < n
       → finished (recorded n limit edition x.0 (done x.0.count)) x.3 (x.2 ++ x.1) ≡ (recorded n limit edition x.0 (refused 13 0), x.3, x.2 ++ x.1)
-  early_is h = finish_by true (lt_ltb x.0.l n h)
+  early_is h = finish_by true (lt-ltb x.0.l n h)
 
   kept_whole : given n (ql_finished n (rest n limit edition (step n limit edition x))) ≡ given n (ql_finished n (rest n limit edition x))
   kept_whole =
@@ -316,7 +316,7 @@ set_fine n j e x h f = record {
   long = length-set e j x ∙ f.long;
   all = λ k l. elim (ℕ_discrete k j) [
     | yes q ↦ rw q (rw (get_or-set_same e j x nan (omega (arith, f.long))) h)
-    | no q ↦ rw (get_or_set_other e j k x nan q) (f.all k l)
+    | no q ↦ rw (get_or-set_other e j k x nan q) (f.all k l)
   ];
 }
 

@@ -6,7 +6,7 @@ use Rattle.std.proofs.Math.Bool.{true, false, cond, not}
 use Prim.Native.Nat.{ℕ, zero, suc, ◌+◌, ◌-◌, ◌≤◌, ◌<◌}
 use Rattle.std.proofs.Math.Decide.{dec_lt}
 use native.Mathlib.Omega.{arith}
-use borrow.Author.Tests.{ltb-true, ltb-false, lt_ltb, le-ltb, ne_eqb, eqb-true, eqb-false}
+use borrow.Author.Tests.{ltb-true, ltb-false, lt-ltb, le-ltb, ne_eqb, eqb-true, eqb-false}
 use Rattle.std.proofs.Math.Dec.{ltb}
 use Rattle.grid.specs.Loop.{times, upto, rounds}
 use Rattle.grid.specs.LoopLaws.{upto_keeps, rounds_done}
@@ -129,7 +129,7 @@ module _ (n limit edition : ℕ) where
 
   after_within : (x : State) → x.0.l < n → after n limit edition x ≡ worked n limit edition x
   unfolding after
-  after_within x h = λ i. cond (lt_ltb x.0.l n h i) (worked n limit edition x) x
+  after_within x h = λ i. cond (lt-ltb x.0.l n h i) (worked n limit edition x) x
 
   after_past : (x : State) → n ≤ x.0.l → after n limit edition x ≡ x
   unfolding after

@@ -2,7 +2,7 @@
 -- So document 000's own test for a split holds at n - 1, and its search for m, which goes on to n, ends where `split` does. Assumes nothing.
 use Rattle.std.specs.Prelude.{◌≡◌, Bool, true, false, cond, not, ◌&&◌, ◌||◌, ℕ, zero, suc, ◌+◌, ◌-◌, ◌*◌, ◌≤◌, ◌<◌, ◌^◌, eqb, ltb, pos, negsuc, length, set, Float}
 use Rattle.std.proofs.Math.Path.{refl}
-use Rattle.std.proofs.Common.{sym, ap, ◌∙◌, subst, true≢false, zero-mul, add-zero, mul-pos, zero-lt-suc, arith, lt_ltb, pow_pos, length-set, get_or-set_same, get_or_set_other}
+use Rattle.std.proofs.Common.{sym, ap, ◌∙◌, subst, true≢false, zero-mul, add-zero, mul-pos, zero-lt-suc, arith, lt-ltb, pow_pos, length-set, get_or-set_same, get_or-set_other}
 use Rattle.std.specs.Bool.{beq}
 use Rattle.std.proofs.Math.Decide.{dec_lt}
 use Rattle.std.specs.Float.{nan, inf, fin, Format, binary64}
@@ -103,7 +103,7 @@ plus_epsilon t p = rw epsilon_is (plus_times t p)
 -- a zero's magnitude is at most any number with no minus sign
 level_or_below : (b : ℕ) → (ltb 0 b || (eqb 0 b && true)) ≡ true
 level_or_below zero = refl
-level_or_below (suc b) = rw (lt_ltb 0 (suc b) (omega arith))
+level_or_below (suc b) = rw (lt-ltb 0 (suc b) (omega arith))
 
 nought_le : (x y : Float) → nought x ≡ true → plus y ≡ true → le (magnitude x) y ≡ true
 unfolding nought plus magnitude le
@@ -117,12 +117,12 @@ nought_le (fin s zero e) (fin false n d) h p = rw (zero-mul (up e), zero-mul (do
 nought_le (fin s (suc m) e) (fin false n d) h p = absurd (true≢false (sym h))
 
 -- such a number is at least +0.0, and a zero of either sign equals +0.0
-zero_le : (y : Float) → plus y ≡ true → le (fin false 0 (pos 0)) y ≡ true
+zero-le : (y : Float) → plus y ≡ true → le (fin false 0 (pos 0)) y ≡ true
 unfolding nought magnitude
-zero_le y p = nought_le (fin false 0 (pos 0)) y refl p
+zero-le y p = nought_le (fin false 0 (pos 0)) y refl p
 
 pub plus_le : (y : Float) → plus y ≡ true → le zero64 y ≡ true
-plus_le y p = ap (λ (z : Float). le z y) zero_is ∙ zero_le y p
+plus_le y p = ap (λ (z : Float). le z y) zero_is ∙ zero-le y p
 
 either_sign : (s : Bool) → (beq s false || true) ≡ true
 either_sign true = refl
@@ -185,7 +185,7 @@ pub record Kept (k : ℕ) (e f : Vec) : Type 0 where
 kept_set : (k j : ℕ) (e f : Vec) (x : Float) → j < k → Kept k e f → Kept k e (set f j x)
 kept_set k j e f x h a = record {
   long = length-set f j x ∙ a.long;
-  same = get_or_set_other f j k x nan (λ q. omega arith) ∙ a.same;
+  same = get_or-set_other f j k x nan (λ q. omega arith) ∙ a.same;
 }
 
 abbrev Turning : Type 0
@@ -237,7 +237,7 @@ transformed_ended n edition l m k v d e h g b = behind _ (spins_ended n edition 
   where
     behind : (x : Float) {f : Vec} → Ended k e f → Ended k e (set f l x)
     behind x {f} a =
-        let s : at (set f l x) k ≡ at f k = get_or_set_other f l k x nan (λ q. omega arith) in
+        let s : at (set f l x) k ≡ at f k = get_or-set_other f l k x nan (λ q. omega arith) in
         record { long = length-set f l x ∙ a.long; zero = λ z q. rw s (a.zero z (rw s at q)) }
 
 -- ---- where a run begins

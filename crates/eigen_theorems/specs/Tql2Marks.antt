@@ -1,7 +1,7 @@
 -- The outcome of tql2 is the one that the run gives (`run_gives`), so marks and limit only stop document 000's own (`tql2_document`); and at each l that a run comes to, document 000's test holds at n - 1 (`test_at_last`). Laws only.
 use Rattle.std.specs.Prelude.{◌≡◌, ◌⊎◌, Bool, true, false, cond, not, ltb, eqb, Float, length}
 use Rattle.std.proofs.Math.Path.{refl, sym, subst}
-use Rattle.std.proofs.Common.{ap, ◌∙◌, add-one, arith, ltb-true, length-set, get_or-set_same, get_or_set_other}
+use Rattle.std.proofs.Common.{ap, ◌∙◌, add-one, arith, ltb-true, length-set, get_or-set_same, get_or-set_other}
 use Rattle.std.proofs.Math.Logic.{⊎_elim, inl, inr}
 use Prim.Native.Nat.{ℕ, zero, suc, ◌+◌, ◌*◌, ◌-◌, ◌≤◌, ◌<◌}
 use Rattle.std.proofs.Math.Decide.{ℕ_discrete}
@@ -180,7 +180,7 @@ released_fine n x h p =
       long = length-set x.3 l zero64 ∙ p.long;
       last = elim (ℕ_discrete (n - 1) l) [
         | yes q ↦ rw q (rw (get_or-set_same x.3 l zero64 nan (omega (arith, p.long))) nought_zero)
-        | no q ↦ rw (get_or_set_other x.3 l (n - 1) zero64 nan q) p.last
+        | no q ↦ rw (get_or-set_other x.3 l (n - 1) zero64 nan q) p.last
       ];
       grows = p.grows;
     }

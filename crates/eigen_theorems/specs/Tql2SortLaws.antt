@@ -1,7 +1,7 @@
 -- tql2's sort: the values come to ascend (`sorted_ascends`), and values and columns change places by one permutation (`sorted_arranged`). Laws only.
 use Rattle.std.specs.Prelude.{◌≡◌, Bool, true, cond, ℕ, ◌+◌, ◌*◌, ◌-◌, ◌≤◌, ◌<◌, eqb, Float, length, set}
 use Rattle.std.proofs.Math.Path.{refl, subst}
-use Rattle.std.proofs.Common.{sym, ap, ◌∙◌, eqb-true, eq-eqb, ne_eqb, length-set, get_or-set_same, get_or_set_other}
+use Rattle.std.proofs.Common.{sym, ap, ◌∙◌, eqb-true, eq-eqb, ne_eqb, length-set, get_or-set_same, get_or-set_other}
 use Rattle.std.proofs.Math.Bool.{false}
 use Rattle.std.proofs.Math.Decide.{ℕ_discrete}
 use native.Mathlib.Omega.{arith}
@@ -183,8 +183,8 @@ one_step n i x h lv ld f = go (eqb b.k i) refl
     moved o k l = swap_at (λ t. at d k ≡ at x.1 t) i b.k k
         (λ e. subst (λ (t : ℕ). at d t ≡ at x.1 b.k) (sym e) (get_or-set_same one i b.p nan (omega (arith, inner)) ∙ s.value))
         (λ e. subst (λ (t : ℕ). at d t ≡ at x.1 i) (sym e)
-        (get_or_set_other one i b.k b.p nan o ∙ get_or-set_same x.1 b.k (at x.1 i) nan (omega (arith, s.below))))
-        (λ e g. get_or_set_other one i k b.p nan e ∙ get_or_set_other x.1 b.k k (at x.1 i) nan g)
+        (get_or-set_other one i b.k b.p nan o ∙ get_or-set_same x.1 b.k (at x.1 i) nan (omega (arith, s.below))))
+        (λ e g. get_or-set_other one i k b.p nan e ∙ get_or-set_other x.1 b.k k (at x.1 i) nan g)
 
     go : (t : Bool) → eqb b.k i ≡ t → Step n i x (cond t x (swapped n i b.k x.0, d))
     go true e =

@@ -2,7 +2,7 @@
 -- `Open` is what the code asks of a run that it moves on; no public promise cites it.
 use Rattle.std.specs.Prelude.{◌≡◌, Bool, true, false, not, ◌||◌, ℕ, ◌+◌, ◌-◌, ◌*◌, ◌≤◌, ◌<◌, ◌^◌, ltb, leb, eqb, length, take, drop}
 use Rattle.std.proofs.Common.{sym, ◌∙◌, true≢false, mul-le-mul, arith, ltb-true, leb-true, eqb-true, ne_eqb, length-drop, take_all}
-use Rattle.std.proofs.lemmas.Bool.{not_true, not-false}
+use Rattle.std.proofs.lemmas.Bool.{not-true, not-false}
 use Rattle.grid.specs.Real.{Vec}
 use Rattle.grid.specs.LoopLaws.{both}
 use Rattle.answers.specs.Checks.{limit_good, edition_good}
@@ -97,4 +97,4 @@ pub holds : {b : Bool} (c : Bool) → b ≡ c → not b ≡ false → c ≡ true
 holds c e h = sym e ∙ not-false _ h
 
 pub fails : {b : Bool} (c : Bool) → b ≡ c → not b ≡ true → c ≡ false
-fails c e h = sym e ∙ not_true _ h
+fails c e h = sym e ∙ not-true _ h

@@ -1,7 +1,7 @@
 -- Two lists that agree at the places of which P holds. Laws only.
 -- A store of one value at one place of both keeps that, and adds the place. Assumes nothing.
 use Rattle.std.specs.Prelude.{◌≡◌, ◌≢◌, ℕ, ◌≤◌, ◌<◌, Float, length, set}
-use Rattle.std.proofs.Common.{sym, ap, ◌∙◌, subst, arith, length-set, get_or-set_same, get_or_set_other, ext_get_or}
+use Rattle.std.proofs.Common.{sym, ap, ◌∙◌, subst, arith, length-set, get_or-set_same, get_or-set_other, ext_get_or}
 use Rattle.std.proofs.Math.Decide.{ℕ_discrete, dec_lt}
 use Rattle.std.specs.Float.{nan}
 use Rattle.std.proofs.Math.ListN.{get_or-eq_default}
@@ -28,7 +28,7 @@ module _ {P : ℕ → Type 0} {l m : Vec} where
     long = length-set l j x ∙ a.long ∙ sym (length-set m j y);
     same = λ k p. elim (ℕ_discrete k j) [
       | yes e ↦ subst (λ (i : ℕ). at (set l j x) i ≡ at (set m j y) i) (sym e) (set_here l m j a.long q)
-      | no d ↦ get_or_set_other l j k x nan d ∙ a.same k (h k d p) ∙ sym (get_or_set_other m j k y nan d)
+      | no d ↦ get_or-set_other l j k x nan d ∙ a.same k (h k d p) ∙ sym (get_or-set_other m j k y nan d)
     ];
   }
 

@@ -4,9 +4,9 @@ use Rattle.std.proofs.Math.Path.{refl, sym, ap, ap₂}
 use Rattle.std.proofs.Common.{◌∙◌, subst, subst₂, true≢false, inl, inr, pow-add, pow_pos, get_or-take, get_or-drop}
 use Rattle.std.proofs.lemmas.List.{map-append, length-map}
 use Prim.Native.Nat.{ℕ, zero, suc, ◌+◌, ◌-◌, ◌*◌, ◌/◌, ◌%◌, ◌^◌, ◌≤◌, ◌<◌}
-use Rattle.std.proofs.Math.Nat.{one_mul, mul-le-mul_right}
+use Rattle.std.proofs.Math.Nat.{one-mul, mul-le-mul_right}
 use native.Mathlib.Omega.{arith}
-use borrow.Author.Tests.{ltb-true, ltb-false, lt_ltb, eqb-false}
+use borrow.Author.Tests.{ltb-true, ltb-false, lt-ltb, eqb-false}
 use Rattle.std.proofs.Math.IntN.{pos, nat_abs, ◌+ℤ◌, ◌*ℤ◌, *ℤ-zero}
 use Rattle.std.specs.Float.Ieee.{binary64, of_int}
 use Rattle.std.proofs.Math.ListN.{get_or-map}
@@ -84,7 +84,7 @@ module _ (k : ℕ) (samples : List ℤ) where
       let l : 0x20_0000_0000_0000 < nat_abs z = ltb-true 0x20_0000_0000_0000 (nat_abs z) h in
       let g : 1 * nat_abs z ≤ 2 ^ (k + k) * nat_abs z = mul-le-mul_right (nat_abs z) (pow_pos (k + k)) in
       let e : nat_abs (whole (louder k samples) N x y) ≡ 2 ^ (k + k) * nat_abs z = ap nat_abs (whole_louder N x y) ∙ times_size (2 ^ (k + k)) z in
-      lt_ltb 0x20_0000_0000_0000 (nat_abs (whole (louder k samples) N x y)) (omega (arith, one_mul (nat_abs z)))
+      lt-ltb 0x20_0000_0000_0000 (nat_abs (whole (louder k samples) N x y)) (omega (arith, one-mul (nat_abs z)))
 
 -- a test that holds where another does is met no later
 seek_from : (p : ℕ → Bool) (a m : ℕ) → a ≤ seek p a m

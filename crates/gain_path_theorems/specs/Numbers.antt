@@ -1,6 +1,6 @@
 -- A number and a vector in two runs: the second is 2 ^ k times the first, and both are doubles. Each operation keeps that.
 use Rattle.std.specs.Prelude.{◌≡◌, refl, Bool, true, false, ℕ, zero, suc, ◌+◌, ◌≤◌, ◌<◌, T, ltb, eqb, pos, Float, length, set}
-use Rattle.std.proofs.Common.{sym, ap, ap₂, ◌∙◌, subst, add-zero, arith, ltb-true, ltb-false, eqb-true, get_or-set_same, get_or_set_other}
+use Rattle.std.proofs.Common.{sym, ap, ap₂, ◌∙◌, subst, add-zero, arith, ltb-true, ltb-false, eqb-true, get_or-set_same, get_or-set_other}
 use Rattle.std.proofs.lemmas.Bool.{eqb-false}
 use Rattle.std.specs.Float.{nan, inf, fin, binary64}
 use Rattle.std.specs.Float.Ieee.{fits, lt, le}
@@ -115,7 +115,7 @@ doubles_set d i x D F j = go (eqb j i) refl (ltb i (length d)) refl
     go true p false q =
         let l : length d ≤ i = ltb-false i (length d) q in
         rw (set_out d i x l) (D j)
-    go false p c q = rw (get_or_set_other d i j x nan (eqb-false j i p)) (D j)
+    go false p c q = rw (get_or-set_other d i j x nan (eqb-false j i p)) (D j)
 
 pub pair_set : (k : ℕ) (d d' : Vec) (i : ℕ) (x : Float) {x' : Float} → Pair k d d' → Number k x x' → Pair k (set d i x) (set d' i x')
 pair_set k d d' i x {x'} h n =

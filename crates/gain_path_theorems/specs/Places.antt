@@ -1,6 +1,6 @@
 -- Places of two vectors, and cells of two matrices, that carry a power of the gain: of those of which P holds number j of the second is 2 ^ k times number j of the first. Laws only.
 use Rattle.std.specs.Prelude.{◌≡◌, refl, Bool, true, false, ◌&&◌, ℕ, ◌+◌, ◌*◌, ◌≤◌, ◌<◌, T, ltb, eqb, Float, length, set}
-use Rattle.std.proofs.Common.{sym, ap, ◌∙◌, subst, subst₂, arith, ltb-true, ltb-false, eqb-true, length-set, get_or-set_same, get_or_set_other}
+use Rattle.std.proofs.Common.{sym, ap, ◌∙◌, subst, subst₂, arith, ltb-true, ltb-false, eqb-true, length-set, get_or-set_same, get_or-set_other}
 use Rattle.std.proofs.Math.Decide.{ℕ_discrete}
 use Rattle.std.proofs.lemmas.Bool.{eqb-false}
 use Rattle.std.specs.Float.{nan, binary64}
@@ -49,7 +49,7 @@ place_set k P Q d d' i x {x'} n h a = record {
         subst (λ (m : ℕ). Number k (at (set d i x) m) (at (set d' i x') m)) (sym s) (set_here k d d' i x a.long (n (subst Q s q)))
     go j q false e =
         let o : j ≡ i → ⊥ = eqb-false j i e in
-        rw (get_or_set_other d i j x nan o, get_or_set_other d' i j x' nan o) (a.each j (h j o q))
+        rw (get_or-set_other d i j x nan o, get_or-set_other d' i j x' nan o) (a.each j (h j o q))
 
 pub place_as : (k : ℕ) (P Q : ℕ → Type 0) (d d' : Vec) → ((j : ℕ) → Q j → P j) → Places k P d d' → Places k Q d d'
 place_as k P Q d d' h a = record { long = a.long; each = λ j q. a.each j (h j q) }
@@ -75,7 +75,7 @@ cell_put n k P Q v v' i j x {x'} l m h a = record {
         (set_here k v v' (j * n + i) x a.long (m (subst₂ Q w.0 w.1 q)))
     go r c b q false e =
         let o : c * n + r ≡ j * n + i → ⊥ = eqb-false (c * n + r) (j * n + i) e in
-        rw (get_or_set_other v (j * n + i) (c * n + r) x nan o, get_or_set_other v' (j * n + i) (c * n + r) x' nan o)
+        rw (get_or-set_other v (j * n + i) (c * n + r) x nan o, get_or-set_other v' (j * n + i) (c * n + r) x' nan o)
         (a.each r c b (h r c (λ s. o (same r c i j s.0 s.1)) q))
       where
         same : (r c i j : ℕ) → r ≡ i → c ≡ j → c * n + r ≡ j * n + i

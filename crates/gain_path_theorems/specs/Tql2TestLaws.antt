@@ -1,6 +1,6 @@
 -- A run that passes the test is one that `tql2_gain` asks for. Laws only.
 use Rattle.std.specs.Prelude.{◌≡◌, refl, Bool, true, false, not, ◌&&◌, ◌||◌, List, [], ◌∷◌, ℕ, zero, suc, ◌+◌, ◌-◌, T, ltb, eqb, Float, get_or}
-use Rattle.std.proofs.Common.{ap, lt_ltb, eq-eqb}
+use Rattle.std.proofs.Common.{ap, lt-ltb, eq-eqb}
 use Rattle.std.specs.Float.Ieee.Fits.{and_l, and_r}
 use Rattle.grid.specs.Real.{Vec, at, ◌⊖◌, ◌⊘◌}
 use Rattle.hypot.specs.Edition.{pythag}
@@ -101,7 +101,7 @@ of_stage n limit edition l x t =
     let c = stage_tests fine false n limit edition l x in
     let y = passed n limit edition l x in
     record {
-      begin = record { size = nth c 0 t; bound = λ h. of_product _ _ (or_r (not (ltb l (n - 1))) _ (nth c 1 t) (ap not (lt_ltb l (n - 1) h))) };
+      begin = record { size = nth c 0 t; bound = λ h. of_product _ _ (or_r (not (ltb l (n - 1))) _ (nth c 1 t) (ap not (lt-ltb l (n - 1) h))) };
       passes = λ e. of_rounds (pass n edition) ended (λ z. all_of (pass_tests fine false n edition z)) (PassFine n edition) limit (at_l n l x) (λ z u. of_pass n edition z u) (or_r (ended (at_l n l x)) _ (nth c 2 t) e);
       value = λ e. or_r (not (eqb y.0.stop converged)) _ (nth c 3 t) (ap not (eq-eqb y.0.stop converged e));
     }

@@ -1,6 +1,6 @@
 -- Whole numbers with a sign, times a number that has none; and such a number as a double. Laws only.
 use Rattle.std.specs.Prelude.{◌≡◌, refl, Bool, true, false, ◌||◌, ℕ, zero, suc, ◌+◌, ◌*◌, ◌^◌, ◌≤◌, ◌<◌, T, ltb, eqb, ℤ, pos, negsuc, nat_abs, neg_ℤ, ◌+ℤ◌, ◌-ℤ◌, ◌*ℤ◌, Float}
-use Rattle.std.proofs.Common.{sym, ap, ap₂, ◌∙◌, subst, mul-one, mul_assoc, mul_comm, mul_left_comm, mul-pos, le_trans, mul-le-mul_right, zero-mul, one_mul, pow-suc, arith, lt→ltb, lit<, pow-add, pow_pos}
+use Rattle.std.proofs.Common.{sym, ap, ap₂, ◌∙◌, subst, mul-one, mul_assoc, mul_comm, mul_left_comm, mul-pos, le_trans, mul-le-mul_right, zero-mul, one-mul, pow-suc, arith, lt→ltb, lit<, pow-add, pow_pos}
 use Rattle.std.proofs.Math.Nat.{mul-lt-mul_of_pos_left}
 use Rattle.std.proofs.Math.IntN.{zero-*ℤ, suc_ℤ-*ℤ, *ℤ_comm, +ℤ_assoc, +ℤ_comm, neg_ℤ-+ℤ, neg_ℤ-neg_ℤ}
 use Rattle.std.specs.Float.{nan, inf, fin, binary64}
@@ -100,7 +100,7 @@ value_fine (fin t (suc m) e) s a A v =
         let one : d * 1 < d * P = mul-lt-mul_of_pos_left h D in
         let more : 1 * (d * P) ≤ suc a * (d * P) = mul-le-mul_right (d * P) (omega arith) in
         let q : suc a * d * P ≡ suc a * (d * P) = mul_assoc (suc a) d P in
-        omega (arith, mul-one d, one_mul (d * P))
+        omega (arith, mul-one d, one-mul (d * P))
     big zero d P A D h = absurd (omega arith)
 
 value_finite : (x : Float) (s : Bool) (a : ℕ) → HasValue x s a 1 → T (finite x)

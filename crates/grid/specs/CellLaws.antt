@@ -1,6 +1,6 @@
 -- A cell stands within its matrix, at a place of its own; a list that is stored from its start on. Laws only.
 use Rattle.std.specs.Prelude.{◌≡◌, refl, [], ◌∷◌, ◌++◌, ℕ, suc, ◌+◌, ◌*◌, ◌/◌, ◌%◌, ◌<◌, ◌≤◌, Float, length, take, set}
-use Rattle.std.proofs.Common.{sym, ap, ◌∙◌, subst, mul-le-mul_right, suc-mul, mod-eq_of_lt, add-one, arith, take_suc, take-suc-set, take_all, get_or-set_same, get_or_set_other}
+use Rattle.std.proofs.Common.{sym, ap, ◌∙◌, subst, mul-le-mul_right, suc-mul, mod-eq_of_lt, add-one, arith, take-suc, take-suc-set, take_all, get_or-set_same, get_or-set_other}
 use Rattle.std.proofs.Math.Nat.{div-eq_of_lt, mul-add-mod_self_right, mul-add-div_right}
 use Rattle.std.specs.Float.{nan}
 use Rattle.std.proofs.lemmas.List.{replicate-append-replicate}
@@ -40,7 +40,7 @@ pub put_here : (v : Vec) (n i j : ℕ) (x : Float) → length v ≡ n * n → i 
 put_here v n i j x l p q = get_or-set_same v (j * n + i) x nan (subst (λ (k : ℕ). j * n + i < k) (sym l) (cell n n j i q p))
 
 pub put_elsewhere : (v : Vec) (n i j r c : ℕ) (x : Float) → i < n → r < n → ((i ≡ r) × (j ≡ c) → ⊥) → at2 (put2 v n i j x) n r c ≡ at2 v n r c
-put_elsewhere v n i j r c x p q d = get_or_set_other v (j * n + i) (c * n + r) x nan (λ e. d (one_place n i j r c p q (sym e)))
+put_elsewhere v n i j r c x p q d = get_or-set_other v (j * n + i) (c * n + r) x nan (λ e. d (one_place n i j r c p q (sym e)))
 
 -- a loop whose turns keep a list's length keeps it
 pub upto_long : {S : Type 0} (list : S → Vec) (f : ℕ → S → S) (a b : ℕ) (s : S) → ((j : ℕ) (s : S) → length (list (f j s)) ≡ length (list s)) → length (list (upto f a b s)) ≡ length (list s)
@@ -52,7 +52,7 @@ pub stored : (d : Vec) (k : ℕ) (x : Float) {t : Vec} → k < length d → take
 stored d k x h e = rw add-one (take-suc-set d k x h ∙ ap (λ (t : Vec). t ++ (x ∷ [])) e)
 
 pub copied : (d from : Vec) (k : ℕ) → k < length d → k < length from → take k d ≡ take k from → take (k + 1) (set d k (at from k)) ≡ take (k + 1) from
-copied d from k h g e = stored d k (at from k) h e ∙ sym (rw add-one (take_suc from k nan g))
+copied d from k h g e = stored d k (at from k) h e ∙ sym (rw add-one (take-suc from k nan g))
 
 pub zeroed : (d : Vec) (k : ℕ) → k < length d → take k d ≡ zeros k → take (k + 1) (set d k zero64) ≡ zeros (k + 1)
 zeroed d k h e = stored d k zero64 h e ∙ replicate-append-replicate k 1 zero64

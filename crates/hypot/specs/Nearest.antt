@@ -1,7 +1,7 @@
 -- `hypot2 x y` is the double nearest to the root of x² + y², a tie going to the even one, for every two finite x and y (`hypot2_nearest`), and no other value is (`nearest_only`). Laws only.
 use Rattle.std.specs.Prelude.{◌≡◌, ◌⊎◌, Bool, true, false, not, cond, T, eqb, Float}
 use Rattle.std.proofs.Math.Path.{refl}
-use Rattle.std.proofs.Common.{sym, ap, ◌∙◌, subst, le_of_eq, le_of_lt, lt_of_le_of_lt, lt_of_not_le, not-le_of_lt, lt_irrefl, le_antisymm, add_comm, mul_comm, mul-le-mul, lt_of_mul-lt-mul_right, div-mul-le_self, le-div_iff_mul-le, div-lt_iff_lt-mul, lt_ltb, le-ltb, lit≤, pow-add, pow_pos, pow_mono}
+use Rattle.std.proofs.Common.{sym, ap, ◌∙◌, subst, le_of_eq, le_of_lt, lt_of_le_of_lt, lt_of_not-le, not-le_of_lt, lt_irrefl, le_antisymm, add_comm, mul_comm, mul-le-mul, lt_of_mul-lt-mul_right, div-mul-le_self, le-div_iff_mul-le, div-lt_iff_lt-mul, lt-ltb, le-ltb, lit≤, pow-add, pow_pos, pow_mono}
 use Rattle.std.proofs.Math.Logic.{inl, inr}
 use Prim.Native.Nat.{ℕ, zero, suc, ◌+◌, ◌-◌, ◌*◌, ◌/◌, ◌%◌, ◌^◌, ◌≤◌, ◌<◌}
 use Rattle.std.proofs.Math.Nat.{le_trans, lt_of_lt_of_le, add-mul, lt-div-mul-add}
@@ -218,7 +218,7 @@ module _ (n s k t : ℕ) (w : Full n s k t) where
 
 packed_under : (k s t : ℕ) → bits k s t < 0x7ff0_0000_0000_0000 → packed k s t ≡ bits k s t
 unfolding packed
-packed_under k s t h = ap (λ (c : Bool). cond c (bits k s t) 0x7ff0_0000_0000_0000) (lt_ltb (bits k s t) 0x7ff0_0000_0000_0000 h)
+packed_under k s t h = ap (λ (c : Bool). cond c (bits k s t) 0x7ff0_0000_0000_0000) (lt-ltb (bits k s t) 0x7ff0_0000_0000_0000 h)
 
 packed_over : (k s t : ℕ) → 0x7ff0_0000_0000_0000 ≤ bits k s t → packed k s t ≡ 0x7ff0_0000_0000_0000
 unfolding packed
@@ -230,7 +230,7 @@ module _ (n s k t : ℕ) (l : 4 * n < 4 ^ 2100) (w : Full n s k t) where
 
   root_under : n < edge * edge → Nearest n (root_of_sum n)
   root_under h =
-      let less : bits k s t < 0x7ff0_0000_0000_0000 = lt_of_not_le (λ (g : 0x7ff0_0000_0000_0000 ≤ bits k s t). not-le_of_lt h (past_edge n s k t w g)) in
+      let less : bits k s t < 0x7ff0_0000_0000_0000 = lt_of_not-le (λ (g : 0x7ff0_0000_0000_0000 ≤ bits k s t). not-le_of_lt h (past_edge n s k t w g)) in
       subst (λ (r : Float). Nearest n r) (ap (of_bits binary64) (sym (packed_under k s t less)) ∙ rounds.rounds n s k t l w) (nearest_bits n s k t w less)
 
 val_lt : (b : ℕ) → b < 0x7ff0_0000_0000_0000 → val b < 2 ^ 2098
@@ -307,4 +307,4 @@ nearest_only x y r s p q = go (dec_le (edge * edge) (squares x y))
   where
     go : Dec (edge * edge ≤ squares x y) → r ≡ s
     go (yes h) = p.over h ∙ sym (q.over h)
-    go (no f) = nearest_one (squares x y) r s (p.under (lt_of_not_le f)) (q.under (lt_of_not_le f))
+    go (no f) = nearest_one (squares x y) r s (p.under (lt_of_not-le f)) (q.under (lt_of_not-le f))

@@ -6,7 +6,7 @@ use Rattle.std.specs.Float.{nan, inf, fin, binary64}
 use Rattle.std.specs.Float.Ieee.{up, down, eq, ne, is_nan, size, to_bits, fits}
 use Rattle.std.specs.Float.Ieee.Bits.{of_bits-to_bits}
 use Rattle.std.specs.Float.Ieee.Compare.{differs_from_itself}
-use Rattle.std.specs.Float.Ieee.Digits.{size_le}
+use Rattle.std.specs.Float.Ieee.Digits.{size-le}
 use Rattle.root.specs.Root.{units}
 use Rattle.leaves.specs.Leaf.{magnitude}
 use Rattle.root.proofs.Fields as fields
@@ -47,7 +47,7 @@ pub positive_lt : (s : Bool) (m : ℕ) (e : _) → T (fits binary64 (fin s m e))
 unfolding fits
 positive_lt s zero e f =
     let a : to_bits binary64 (fin false zero e) ≡ 0 + (size 0 - 53) * 2 ^ 52 + 0 / 2 ^ (size 0 - 53) = from_units (fin false zero e) tt ∙ ap (λ (u : ℕ). 0 + (size u - 53) * 2 ^ 52 + u / 2 ^ (size u - 53)) (zero_units e) in
-    omega (arith, a, size_le 0 0 (omega arith), zero-div (2 ^ (size 0 - 53)))
+    omega (arith, a, size-le 0 0 (omega arith), zero-div (2 ^ (size 0 - 53)))
 positive_lt s (suc m) e f = (pattern (fin false (suc m) e) f (lt→ltb 0 (suc m) (omega arith))).1
 
 pub of_fin : (s : Bool) (m : ℕ) (e : _) → T (fits binary64 (fin s m e)) → bits_of (fin s m e) < 0x7ff0_0000_0000_0000

@@ -1,7 +1,7 @@
 -- `root_of_sum n`, which `round` makes of the middle of a short stretch that holds √n, is the double whose pattern `packed` works out from a longer stretch (`rounds`). Laws only.
 use Rattle.std.specs.Prelude.{◌≡◌, refl, ◌⊎◌, Bool, not, cond, T, ltb, eqb}
 use Rattle.std.proofs.Math.Path.{sym}
-use Rattle.std.proofs.Common.{ap, ◌∙◌, subst, le_refl, le_trans, le_of_eq, lt_of_lt_of_le, lt_of_le_of_lt, mul-le-mul_right, mul-pos, mul-one, mul_assoc, mul_left_comm, add-mul, suc-mul, le-div_iff_mul-le, div-lt_iff_lt-mul, eq-or-lt_of_le, add-one, lt_ltb, eqb→eq, nltb→le, ltb→lt, lit≤, T_not, pow-add, pow_pos, pow_mono, shl_lt}
+use Rattle.std.proofs.Common.{ap, ◌∙◌, subst, le_refl, le_trans, le_of_eq, lt_of_lt_of_le, lt_of_le_of_lt, mul-le-mul_right, mul-pos, mul-one, mul_assoc, mul_left_comm, add-mul, suc-mul, le-div_iff_mul-le, div-lt_iff_lt-mul, eq-or-lt_of_le, add-one, lt-ltb, eqb→eq, nltb→le, ltb→lt, lit≤, T_not, pow-add, pow_pos, pow_mono, shl_lt}
 use Rattle.std.proofs.Math.Logic.{inl, inr}
 use Prim.Native.Nat.{ℕ, zero, suc, ◌+◌, ◌-◌, ◌*◌, ◌/◌, ◌%◌, ◌^◌, ◌≤◌, ◌<◌, compare, Ordering}
 use Rattle.std.proofs.Math.Nat.{mul-lt-mul_of_pos_left, pow-succ'}
@@ -13,7 +13,7 @@ use Rattle.std.specs.Float.Ieee.{binary64, nearest, size, round, of_bits}
 use Rattle.std.specs.Float.Ieee.Bits.{of_bits-fits}
 use Rattle.std.specs.Float.Ieee.Fits.{round-fits, eq→eqb}
 use Rattle.std.specs.Float.Ieee.Scale.{grid, round_val}
-use Rattle.std.specs.Float.Ieee.Digits.{size_le}
+use Rattle.std.specs.Float.Ieee.Digits.{size-le}
 use Rattle.std.specs.Float.Ieee.Nearest.{closest, closest_same}
 use Rattle.root.specs.Root.{whole}
 use Rattle.root.proofs.Whole.{Is, whole_is, sq_lt_back, sq_suc}
@@ -91,7 +91,7 @@ module _ (s k w : ℕ) (all : (k ≡ 0) ⊎ (2 ^ 53 ≤ s)) (few : s < 2 ^ 54) (
   drops : size (w * 2 ^ 1074 / 2 ^ 1076) - 53 ≡ k
   drops = elim all [
     | inl z ↦
-        let a : size (w * 2 ^ 1074 / 2 ^ 1076) ≤ 53 + k = size_le (w * 2 ^ 1074 / 2 ^ 1076) (53 + k) (lt_of_lt_of_le under (le_of_eq (sym (pow-add 2 53 k)))) in
+        let a : size (w * 2 ^ 1074 / 2 ^ 1076) ≤ 53 + k = size-le (w * 2 ^ 1074 / 2 ^ 1076) (53 + k) (lt_of_lt_of_le under (le_of_eq (sym (pow-add 2 53 k)))) in
         omega arith
     | inr h ↦
         let H = 2 ^ k in
@@ -123,7 +123,7 @@ module _ (k q : ℕ) (all : (k ≡ 0) ⊎ (2 ^ 52 ≤ q)) (few : q ≤ 2 ^ 53) w
   ]
     where
       low : (b : ℕ) → b < 2 ^ 52 → fields.val b ≡ b
-      low b h = ap (λ (t : Bool). cond t b ((2 ^ 52 + b % 2 ^ 52) * 2 ^ (b / 2 ^ 52 - 1))) (lt_ltb b (2 ^ 52) h)
+      low b h = ap (λ (t : Bool). cond t b ((2 ^ 52 + b % 2 ^ 52) * 2 ^ (b / 2 ^ 52 - 1))) (lt-ltb b (2 ^ 52) h)
 
       go : Dec (q < 2 ^ 52) → q < 2 ^ 53 → fields.val (k * 2 ^ 52 + q) ≡ q * 2 ^ k
       go (no h) l = root_val k q (ge q h) l

@@ -1,7 +1,7 @@
 -- The working of `length`, over whole numbers. Laws only.
 -- What its parts hand on ends in a stretch that holds the root (`near`), and so does the greater number where the other is far below it (`far_off`).
 use Rattle.std.specs.Prelude.{◌≡◌, refl, ◌⊎◌, ℕ, zero, suc, ◌+◌, ◌-◌, ◌*◌, ◌/◌, ◌%◌, ◌^◌, ◌≤◌, ◌<◌, Bool, true, false, cond, T, ltb, eqb}
-use Rattle.std.proofs.Common.{sym, ◌∙◌, subst, inl, inr, le_of_lt, lt_of_le_of_lt, mul-le-mul, mul-pos, one_mul, mod-eq_of_lt, le_refl, lt_ltb, ltb→lt, pow-add, pow_pos, pow_mono}
+use Rattle.std.proofs.Common.{sym, ◌∙◌, subst, inl, inr, le_of_lt, lt_of_le_of_lt, mul-le-mul, mul-pos, one-mul, mod-eq_of_lt, le_refl, lt-ltb, ltb→lt, pow-add, pow_pos, pow_mono}
 use Rattle.std.proofs.Math.Path.{ap}
 use Rattle.std.proofs.Math.Nat.{mul-div_cancel_left}
 use native.Mathlib.Omega.{arith}
@@ -44,7 +44,7 @@ pub power : (d : ℕ) → d < 27 → (1 * 2 ^ (2 * d)) % 2 ^ 64 ≡ 2 ^ d * 2 ^ 
 power d h =
     let e : 2 * d ≡ d + d = omega arith in
     let l : 2 * d < 64 = omega arith in
-    ap (λ (x : ℕ). x % 2 ^ 64) (one_mul (2 ^ (2 * d))) ∙ mod-eq_of_lt (pow-lt l) ∙ ap (λ (x : ℕ). 2 ^ x) e ∙ pow-add 2 d d
+    ap (λ (x : ℕ). x % 2 ^ 64) (one-mul (2 ^ (2 * d))) ∙ mod-eq_of_lt (pow-lt l) ∙ ap (λ (x : ℕ). 2 ^ x) e ∙ pow-add 2 d d
 
 pub power_le : (d : ℕ) → d < 27 → 2 ^ d * 2 ^ d ≤ 2 ^ 52
 power_le d h =
@@ -99,7 +99,7 @@ itself a i n t top w reach st =
     packed_is c m e =
         let f : i * 2 ^ 52 + (2 * m + cond c (2 * m / 2 % 2) 1) / 2 ≡ a = both c in
         ap (λ (x : ℕ). cond (ltb x 0x7ff0_0000_0000_0000) x 0x7ff0_0000_0000_0000) f
-        ∙ ap (λ (t : Bool). cond t a 0x7ff0_0000_0000_0000) (lt_ltb a 0x7ff0_0000_0000_0000 top)
+        ∙ ap (λ (t : Bool). cond t a 0x7ff0_0000_0000_0000) (lt-ltb a 0x7ff0_0000_0000_0000 top)
       where
         both : (c : Bool) → i * 2 ^ 52 + (2 * m + cond c (2 * m / 2 % 2) 1) / 2 ≡ a
         both true = omega arith

@@ -12,9 +12,9 @@ pub record Sized (n s : ℕ) : Type 0 where
   pub two : 2 * s * s ≤ 131072
   pub one : s * s ≤ 2 * s * s
 
-size_le : (n k : ℕ) → size n k ≤ n
+size-le : (n k : ℕ) → size n k ≤ n
 unfolding size least
-size_le n k = go (ltb (2 * k + 20) n) refl
+size-le n k = go (ltb (2 * k + 20) n) refl
   where
     go : (b : Bool) → ltb (2 * k + 20) n ≡ b → cond b (2 * k + 20) n ≤ n
     go true e = omega (arith, ltb-true (2 * k + 20) n e)
@@ -30,7 +30,7 @@ size_some n k h = go (ltb (2 * k + 20) n)
 
 pub sized : (n k s : ℕ) → n ≤ 256 → s ≡ size n k → Sized n s
 sized n k s h e =
-    let w : s ≤ n = rw e (size_le n k) in
+    let w : s ≤ n = rw e (size-le n k) in
     let m : s ≤ 256 = omega arith in
     let d : 2 * s ≤ 512 = omega arith in
     let o : s ≤ 2 * s = omega arith in

@@ -1,6 +1,6 @@
 -- What the steps leave: alphas and betas that are finite (`steps_fine`), and how many steps were begun (`steps_some`, `steps_few`). Laws only.
 use Rattle.std.specs.Prelude.{◌≡◌, ℕ, ◌+◌, ◌*◌, ◌<◌, ◌≤◌, Bool, true, false, cond, length, slice_set, refl, Float}
-use Rattle.std.proofs.Common.{sym, ap, ◌∙◌, true≢false, arith, length-set, get_or-set_same, get_or_set_other}
+use Rattle.std.proofs.Common.{sym, ap, ◌∙◌, true≢false, arith, length-set, get_or-set_same, get_or-set_other}
 use Rattle.std.proofs.Math.Decide.{ℕ_discrete}
 use Rattle.std.specs.Float.{nan}
 use Rattle.std.specs.Float.Ieee.{lt, of_bits}
@@ -37,7 +37,7 @@ fine_set n d j x f h = record { long = length-set d j x ∙ h.long; fine = now }
     now : (k : ℕ) → k < n → is_finite (at (slice_set d j x) k) ≡ true
     now k l = elim (ℕ_discrete k j) [
       | yes e ↦ ap is_finite (ap (at (slice_set d j x)) e ∙ get_or-set_same d j x nan (rw (← e, h.long) l)) ∙ f
-      | no g ↦ ap is_finite (get_or_set_other d j k x nan g) ∙ h.fine k l
+      | no g ↦ ap is_finite (get_or-set_other d j k x nan g) ∙ h.fine k l
     ]
 
 zero_finite : is_finite zero64 ≡ true

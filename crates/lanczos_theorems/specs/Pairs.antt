@@ -7,7 +7,7 @@ use Rattle.std.proofs.Math.Decide.{ℕ_discrete}
 use Rattle.std.proofs.lemmas.Bool.{eqb-false}
 use Rattle.std.specs.Float.Ieee.{Float, nan, le, lt}
 use Rattle.std.proofs.Math.ListN.{length-replicate, get_or-replicate, get_or-append}
-use Rattle.std.proofs.Math.Seq.{get_or-set_same, get_or_set_other}
+use Rattle.std.proofs.Math.Seq.{get_or-set_same, get_or-set_other}
 use Rattle.grid.specs.Loop.{upto}
 use Rattle.grid.specs.LoopLaws.{upto_both, upto_keeps}
 use Rattle.grid.specs.Real.{Vec, at, zero64, zeros, epsilon, ◌⊘◌, ◌⊕◌, ◌⊗◌}
@@ -94,10 +94,10 @@ module _ (n k m : ℕ) (q vals vecs : Vec) (o : ℕ → ℕ) where
     long = replaced_long (k + t * n) n ys d lys room ∙ ld;
     values = λ p g. elim (ℕ_discrete p t) [
       | yes e ↦ at_before (k + t * n) n ys d lys room p (omega arith) ∙ ap (at d) e ∙ get_or-set_same x t v nan (omega (arith, h.long)) ∙ ap (λ (j : ℕ). at vals (o j)) (sym e)
-      | no f ↦ at_before (k + t * n) n ys d lys room p (omega arith) ∙ get_or_set_other x t p v nan f ∙ h.values p (omega arith)
+      | no f ↦ at_before (k + t * n) n ys d lys room p (omega arith) ∙ get_or-set_other x t p v nan f ∙ h.values p (omega arith)
     ];
-    rest = λ p g s. at_before (k + t * n) n ys d lys room p (omega arith) ∙ get_or_set_other x t p v nan (λ e. omega arith) ∙ h.rest p (omega arith) s;
-    rows = λ i g s. at_behind (k + t * n) n ys d lys room i (omega (arith, add-mul t 1 n)) ∙ get_or_set_other x t i v nan (λ e. omega arith) ∙ h.rows i (omega (arith, add-mul t 1 n)) s;
+    rest = λ p g s. at_before (k + t * n) n ys d lys room p (omega arith) ∙ get_or-set_other x t p v nan (λ e. omega arith) ∙ h.rest p (omega arith) s;
+    rows = λ i g s. at_behind (k + t * n) n ys d lys room i (omega (arith, add-mul t 1 n)) ∙ get_or-set_other x t i v nan (λ e. omega arith) ∙ h.rows i (omega (arith, add-mul t 1 n)) s;
   }
     where
       v : Float

@@ -1,7 +1,7 @@
 -- The sign of a number, and its magnitude.
 use mathlib.Core.Path.{◌≡◌, refl, sym, ap, ◌∙◌}
 use Prim.Native.Nat.{ℕ, zero, suc, ◌+◌, ◌*◌, ◌^◌}
-use native.Mathlib.Nat.{zero-mul, mul-one, mul-pos, zero-lt-suc, pow-suc, one_mul}
+use native.Mathlib.Nat.{zero-mul, mul-one, mul-pos, zero-lt-suc, pow-suc, one-mul}
 use native.Mathlib.Omega.{arith}
 use mathlib.Core.Bool.{Bool, true, false, ◌&&◌, ◌||◌, true≢false}
 use borrow.Author.Tests.{ltb-true, ltb-false, eqb-true}
@@ -44,7 +44,7 @@ no_half k p e h = omega (arith, pow-suc 2 k, pow_pos k)
 one_way : (e : ℤ) → up e * down e ≡ 1 → e ≡ pos 0
 one_way (pos zero) h = refl
 one_way (pos (suc k)) h = absurd (no_half k (2 ^ suc k * 1) (sym (mul-one (2 ^ suc k))) h)
-one_way (negsuc k) h = absurd (no_half k (1 * 2 ^ suc k) (sym (one_mul (2 ^ suc k))) h)
+one_way (negsuc k) h = absurd (no_half k (1 * 2 ^ suc k) (sym (one-mul (2 ^ suc k))) h)
 
 zero_of : (s : Bool) (m : ℕ) (e : ℤ) → m ≡ 0 → T (fits binary64 (fin s m e)) → ◌≡◌ {A = Float} (fin false 0 (pos 0)) (fin false m e)
 unfolding fits

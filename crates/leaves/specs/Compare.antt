@@ -1,7 +1,7 @@
 -- The comparison of finite numbers is that of a line. Laws only.
 -- Of two one at most is below the other, and "not below" goes on from one to the next. Signs are free, and -0 stands with +0.
 use Rattle.std.specs.Prelude.{◌≡◌, refl, Bool, true, false, ◌||◌, ◌&&◌, ℕ, suc, ◌+◌, ◌*◌, ◌<◌, ltb, eqb, ℤ, pos, negsuc, Float}
-use Rattle.std.proofs.Common.{sym, ap, ◌∙◌, true≢false, mul-lt-mul_of_pos_right, mul-le-mul_right, mul_right_comm, zero-mul, add-mul, arith, lt_ltb, le-ltb, ltb-true, ltb-false, eqb-true, eq-eqb, pow_pos}
+use Rattle.std.proofs.Common.{sym, ap, ◌∙◌, true≢false, mul-lt-mul_of_pos_right, mul-le-mul_right, mul_right_comm, zero-mul, add-mul, arith, lt-ltb, le-ltb, ltb-true, ltb-false, eqb-true, eq-eqb, pow_pos}
 use Rattle.std.specs.Float.{nan, inf, fin}
 use Rattle.std.specs.Float.Ieee.{lt, eq, le, up, down, below, level}
 use Rattle.grid.specs.LoopLaws.{both}
@@ -12,7 +12,7 @@ ltb_scale : (a b c : ℕ) → 0 < c → ltb (a * c) (b * c) ≡ ltb a b
 ltb_scale a b c z = go (ltb a b) refl
   where
     go : (t : Bool) → ltb a b ≡ t → ltb (a * c) (b * c) ≡ t
-    go true e = lt_ltb (a * c) (b * c) (mul-lt-mul_of_pos_right (ltb-true a b e) z)
+    go true e = lt-ltb (a * c) (b * c) (mul-lt-mul_of_pos_right (ltb-true a b e) z)
     go false e = le-ltb (a * c) (b * c) (mul-le-mul_right c (ltb-false a b e))
 
 below_scale : (s : Bool) (a : ℕ) (t : Bool) (b c : ℕ) → 0 < c → below s (a * c) t (b * c) ≡ below s a t b

@@ -26,9 +26,9 @@ kind_of : Bad → ℕ
 kind_of (At k c) = c
 kind_of Nowhere = 0
 
-not_true : (b : Bool) → not b ≡ true → b ≡ false
-not_true true e = absurd (true≢false (sym e))
-not_true false e = refl
+not-true : (b : Bool) → not b ≡ true → b ≡ false
+not-true true e = absurd (true≢false (sym e))
+not-true false e = refl
 
 -- the place after p where n are in a row
 unfoldable pub after : ℕ → Place → Place
@@ -137,7 +137,7 @@ scan_first x n i c e = go (ltb r n) refl
         let s : class_of (x r) ≡ c = ap kind_of f in
         record {
           within = rw (← q) h;
-          seen = rw (← q) (not_true _ w.0);
+          seen = rw (← q) (not-true _ w.0);
           class = sym s ∙ ap (λ (k : ℕ). class_of (x k)) q;
           before = λ k l. not-false _ (w.1 k (omega arith) (rw q l));
         }

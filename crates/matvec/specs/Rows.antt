@@ -1,7 +1,7 @@
 -- The rows of a product, stored one after the other, are the product, whatever stood there before; a sum and the dot behind it in one walk. Laws only.
 -- `put_dot`, `put_four`, `more` and `added_dot` are what the code does on the way; no public promise cites them.
 use Rattle.std.specs.Prelude.{◌≡◌, refl, Bool, true, false, cond, ℕ, ◌+◌, ◌≤◌, ◌<◌, ltb, Float, length, set}
-use Rattle.std.proofs.Common.{sym, ap, ◌∙◌, subst, arith, ltb-true, get_or_set_other}
+use Rattle.std.proofs.Common.{sym, ap, ◌∙◌, subst, arith, ltb-true, get_or-set_other}
 use Rattle.std.specs.Float.{nan}
 use Rattle.grid.specs.Loop.{upto}
 use Rattle.grid.specs.LoopLaws.{next, done, upto_keeps}
@@ -71,7 +71,7 @@ add_step f u i w = set w i (at w i ⊕ f ⊗ at u i)
 -- number i is w's until its turn comes
 before_turn : (f : Float) (u w : Vec) (i : ℕ) → at (upto (add_step f u) 0 i w) i ≡ at w i
 before_turn f u w i =
-    upto_keeps (λ x y. at x i ≡ at w i) (add_step f u) (add_step f u) 0 i w w (λ j x y p q h. get_or_set_other x j i _ nan (λ e. omega arith) ∙ h) refl
+    upto_keeps (λ x y. at x i ≡ at w i) (add_step f u) (add_step f u) 0 i w w (λ j x y p q h. get_or-set_other x j i _ nan (λ e. omega arith) ∙ h) refl
 
 -- and then what it stays
 pub at_turn : (n : ℕ) (f : Float) (u w : Vec) (i : ℕ) {x : Vec} → i < n → length w ≡ n → x ≡ upto (add_step f u) 0 i w → at x i ⊕ f ⊗ at u i ≡ at (added n f u w) i

@@ -1,6 +1,6 @@
 -- What is written as bytes is read back, and bytes that are read are what is written. Laws only.
 use Rattle.std.specs.Prelude.{◌≡◌, refl, List, [], ◌∷◌, ◌++◌, ℕ, zero, suc, ◌+◌, ◌*◌, ◌/◌, ◌%◌, ◌^◌, ◌≤◌, ◌<◌, length, get_or, take, drop}
-use Rattle.std.proofs.Common.{sym, ap, ◌∙◌, append_assoc, not-suc-le-zero, pow-suc, add-zero, add-one, arith, length-append, length-drop, take_at, drop_at, take_suc, get_or-drop, length-take-le, take-add, drop-drop}
+use Rattle.std.proofs.Common.{sym, ap, ◌∙◌, append_assoc, not-suc-le-zero, pow-suc, add-zero, add-one, arith, length-append, length-drop, take_at, drop_at, take-suc, get_or-drop, length-take-le, take-add, drop-drop}
 use Rattle.octets.specs.Bytes.{be, three, words_bytes, byte, num, words_at, Bytes}
 
 -- ---- lists
@@ -16,7 +16,7 @@ one_of a b e = ap (λ (l : List ℕ). get_or l 0 0) e
 -- one byte more of a block from `at` on
 pub take_more : (t : List ℕ) (at k : ℕ) → at + k < length t → take (suc k) (drop at t) ≡ take k (drop at t) ++ (byte t (at + k) ∷ [])
 take_more t at k h =
-    take_suc (drop at t) k 0 (rw (length-drop at t) (omega arith)) ∙ ap (λ (b : ℕ). take k (drop at t) ++ (b ∷ [])) (get_or-drop at t k 0)
+    take-suc (drop at t) k 0 (rw (length-drop at t) (omega arith)) ∙ ap (λ (b : ℕ). take k (drop at t) ++ (b ∷ [])) (get_or-drop at t k 0)
 
 pub part_length : (t : List ℕ) (at k : ℕ) → at + k ≤ length t → length (take k (drop at t)) ≡ k
 part_length t at k h = length-take-le k (drop at t) (rw (length-drop at t) (omega arith))

@@ -1,6 +1,6 @@
 -- Bytes put to a buffer piece by piece are the whole put once. Laws only.
 use Rattle.std.specs.Prelude.{◌≡◌, refl, List, [], ◌∷◌, ◌++◌, map, ℕ, zero, suc, ◌+◌, ◌*◌, ◌/◌, ◌%◌, ◌≤◌, ◌<◌, length, set, take, drop, get_or, Float}
-use Rattle.std.proofs.Common.{sym, ap, ◌∙◌, append-nil, not-suc-le-zero, add-zero, zero-add, suc-add, add-suc, add-one, arith, length-append, take_suc, take_all, length-take-le}
+use Rattle.std.proofs.Common.{sym, ap, ◌∙◌, append-nil, not-suc-le-zero, add-zero, zero-add, suc-add, add-suc, add-one, arith, length-append, take-suc, take_all, length-take-le}
 use Rattle.std.proofs.lemmas.List.{map-append, length-map}
 use Rattle.std.proofs.lemmas.List.Edits.{sets, sets-eq}
 use Rattle.std.proofs.Math.Seq.{drop-length}
@@ -69,7 +69,7 @@ pub words_more : (l m n : List ℕ) (at i w : ℕ) (ws : List ℕ) → i < lengt
     → n ≡ sets m (at + 8 * i) (be 8 w) → n ≡ sets l at (words_bytes (take (i + 1) ws))
 words_more l m n at i w ws h v e f =
     let whole : words_bytes (take (i + 1) ws) ≡ words_bytes (take i ws) ++ be 8 w =
-    rw (add-one) (ap words_bytes (take_suc ws i 0 h) ∙ words_bytes_append (take i ws) (get_or ws i 0 ∷ []) ∙ rw (word_alone (get_or ws i 0), v)) in
+    rw (add-one) (ap words_bytes (take-suc ws i 0 h) ∙ words_bytes_append (take i ws) (get_or ws i 0 ∷ []) ∙ rw (word_alone (get_or ws i 0), v)) in
     let size : at + length (words_bytes (take i ws)) ≡ at + 8 * i = rw (words_bytes_length (take i ws), length-take-le i ws (omega arith)) in
     rw whole (put_both l m n at (at + 8 * i) (words_bytes (take i ws)) (be 8 w) size e f)
 

@@ -1,6 +1,6 @@
 -- Where the answer is 0, every number of the answer array is finite, and it is as long as the matrix: a finite norm makes each entry's square finite. Laws only.
 use Rattle.std.specs.Prelude.{◌≡◌, refl, Bool, true, false, cond, ℕ, zero, suc, ◌+◌, ◌*◌, ◌<◌, Float, length, set}
-use Rattle.std.proofs.Common.{sym, ap, ◌∙◌, subst, ⊎_elim, add-one, arith, eqb-true, length-set, get_or-set_same, get_or_set_other}
+use Rattle.std.proofs.Common.{sym, ap, ◌∙◌, subst, ⊎_elim, add-one, arith, eqb-true, length-set, get_or-set_same, get_or-set_other}
 use Rattle.std.proofs.Math.Decide.{ℕ_discrete}
 use Rattle.std.specs.Float.{nan}
 use Rattle.std.specs.Float.Ieee.{of_bits, lt}
@@ -33,7 +33,7 @@ set_finite q i x f e k l = elim (ℕ_discrete k i) [
   | yes s ↦
       let b : i < length q = omega (arith, length-set q i x) in
       subst (λ (j : ℕ). is_finite (at (set q i x) j) ≡ true) (sym s) (ap is_finite (get_or-set_same q i x nan b) ∙ e)
-  | no d ↦ ap is_finite (get_or_set_other q i k x nan d) ∙ f k (omega (arith, length-set q i x))
+  | no d ↦ ap is_finite (get_or-set_other q i k x nan d) ∙ f k (omega (arith, length-set q i x))
 ]
 
 zero_finite : is_finite zero64 ≡ true

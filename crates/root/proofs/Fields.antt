@@ -1,5 +1,5 @@
 -- A pattern's significand and exponent, and the number that it stands for in units of 2 ^ -1074.
-use Rattle.std.proofs.Common.{◌≡◌, ℕ, suc, ◌+◌, ◌-◌, ◌*◌, ◌/◌, ◌%◌, ◌^◌, ◌<◌, ◌≤◌, Bool, true, false, cond, not, T, eqb, ltb, sym, refl, ap, ◌∙◌, subst, le_trans, le_of_eq, lt_of_lt_of_le, lt_of_le_of_lt, lt_irrefl, mul-le-mul_right, mul_assoc, lt_of_not_le, arith, eqb→eq, ltb→lt, nltb→le, T_not, pow_mono, pow-add, shl_lt}
+use Rattle.std.proofs.Common.{◌≡◌, ℕ, suc, ◌+◌, ◌-◌, ◌*◌, ◌/◌, ◌%◌, ◌^◌, ◌<◌, ◌≤◌, Bool, true, false, cond, not, T, eqb, ltb, sym, refl, ap, ◌∙◌, subst, le_trans, le_of_eq, lt_of_lt_of_le, lt_of_le_of_lt, lt_irrefl, mul-le-mul_right, mul_assoc, lt_of_not-le, arith, eqb→eq, ltb→lt, nltb→le, T_not, pow_mono, pow-add, shl_lt}
 use native.Mathlib.Nat.{mul-mul-mul_comm}
 use lib.Ieee.Fits.{eq→eqb}
 use lib.Count.{count_leading_zeros, leading_top}
@@ -21,7 +21,7 @@ pub record Split (b m x v : ℕ) : Type 0 where
 pub low_zeros : (b : ℕ) → 0 < b → b < 2 ^ 52 → (j : ℕ) × (count_leading_zeros 64 b + suc j ≡ 64) × (2 ^ j ≤ b) × (b < 2 ^ suc j) × (j < 52)
 low_zeros b p h =
     let t = leading_top 64 b p (omega arith) in
-    (t.0, t.1, t.2, t.3, lt_of_not_le (λ (g : 52 ≤ t.0). lt_irrefl b (lt_of_lt_of_le h (le_trans (pow_mono g) t.2))))
+    (t.0, t.1, t.2, t.3, lt_of_not-le (λ (g : 52 ≤ t.0). lt_irrefl b (lt_of_lt_of_le h (le_trans (pow_mono g) t.2))))
 
 pub split_low : (b : ℕ) → 0 < b → b < 2 ^ 52 → Split b (b * 2 ^ (count_leading_zeros 64 b - 11)) (64 - count_leading_zeros 64 b) b
 split_low b p h =

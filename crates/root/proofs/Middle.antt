@@ -1,6 +1,6 @@
 -- The arithmetic of the midpoints. For D = n * 2 ^ 54, its whole root s, q = (s + 1) / 2 and a power H = 2 ^ h: q * H is nearer to the root of D * H * H / 4 than any other
 -- number p * 2 ^ k with p below 2 ^ 53.
-use Rattle.std.proofs.Common.{◌≡◌, ℕ, suc, ◌+◌, ◌-◌, ◌*◌, ◌/◌, ◌^◌, ◌<◌, ◌≤◌, ◌⊎◌, sym, ap, ◌∙◌, subst, inl, inr, le_trans, le_of_eq, lt_of_lt_of_le, lt_of_le_of_lt, mul-le-mul_right, mul_assoc, suc-mul, mul_comm, add-mul, lt_of_mul-lt-mul_right, eq-or-lt_of_le, mul-le-mul_left, mul-lt-mul_of_pos_right, mul-pos, lt_of_not_le, mul_left_comm, arith, pow_pos, pow_mono, pow-add}
+use Rattle.std.proofs.Common.{◌≡◌, ℕ, suc, ◌+◌, ◌-◌, ◌*◌, ◌/◌, ◌^◌, ◌<◌, ◌≤◌, ◌⊎◌, sym, ap, ◌∙◌, subst, inl, inr, le_trans, le_of_eq, lt_of_lt_of_le, lt_of_le_of_lt, mul-le-mul_right, mul_assoc, suc-mul, mul_comm, add-mul, lt_of_mul-lt-mul_right, eq-or-lt_of_le, mul-le-mul_left, mul-lt-mul_of_pos_right, mul-pos, lt_of_not-le, mul_left_comm, arith, pow_pos, pow_mono, pow-add}
 use native.Mathlib.Decide.{dec_le}
 use Rattle.root.proofs.Whole.{Is, sq_mono, sq_lt_back, sq_even, sq_suc, sq_mul}
 
@@ -83,7 +83,7 @@ next_above q h p k Q P l = go (dec_le h k)
         let u : q < p * 2 ^ (k - h) = lt_of_mul-lt-mul_right (2 ^ h) (subst (λ (x : ℕ). q * 2 ^ h < x) e l) in
         let v : suc q * 2 ^ h ≤ p * 2 ^ (k - h) * 2 ^ h = mul-le-mul_right (2 ^ h) u in
         omega (arith, e, v, suc-mul q (2 ^ h))
-    go (no f) = absurd (far (q * 2 ^ h) (p * 2 ^ k) (2 ^ h) (mul-le-mul_right (2 ^ h) Q) (halves p h k P (lt_of_not_le f)) l)
+    go (no f) = absurd (far (q * 2 ^ h) (p * 2 ^ k) (2 ^ h) (mul-le-mul_right (2 ^ h) Q) (halves p h k P (lt_of_not-le f)) l)
 
 pub next_below : (q h p k : ℕ) → p < 2 ^ 53 → p * 2 ^ k < q * 2 ^ h → (p * 2 ^ k + 2 ^ h ≤ q * 2 ^ h) ⊎ (2 * (p * 2 ^ k) ≤ (2 ^ 53 - 1) * 2 ^ h)
 next_below q h p k P l = go (dec_le h k)
@@ -94,7 +94,7 @@ next_below q h p k P l = go (dec_le h k)
         let u : p * 2 ^ (k - h) < q = lt_of_mul-lt-mul_right (2 ^ h) (subst (λ (x : ℕ). x < q * 2 ^ h) e l) in
         let v : suc (p * 2 ^ (k - h)) * 2 ^ h ≤ q * 2 ^ h = mul-le-mul_right (2 ^ h) u in
         inl (omega (arith, e, v, suc-mul (p * 2 ^ (k - h)) (2 ^ h)))
-    go (no f) = inr (halves p h k P (lt_of_not_le f))
+    go (no f) = inr (halves p h k P (lt_of_not-le f))
 
 -- ---- the two midpoints, for any y beside r = q * H
 

@@ -1,6 +1,6 @@
 -- The doubles from 0 up are in the order of their patterns, so the neighbours of a double are the patterns beside its own. With that: x lies strictly between the squares of
 -- the midpoints of its root and the root's two neighbours (`root_between`), and no other double is so (`between_only`).
-use Rattle.std.proofs.Common.{◌≡◌, ℕ, zero, suc, ◌+◌, ◌-◌, ◌*◌, ◌/◌, ◌%◌, ◌^◌, ◌<◌, ◌≤◌, Bool, false, not, T, ◌⊎◌, sym, ap, ◌∙◌, subst, inl, inr, le_trans, le_of_eq, le_refl, lt_of_lt_of_le, lt_of_le_of_lt, add-zero, le_of_lt, add-le-add, mul_assoc, eq-or-lt_of_le, mul-lt-mul_of_pos_right, lt_of_not_le, zero-mul, not-le_of_lt, arith, lt→ltb, pow_pos}
+use Rattle.std.proofs.Common.{◌≡◌, ℕ, zero, suc, ◌+◌, ◌-◌, ◌*◌, ◌/◌, ◌%◌, ◌^◌, ◌<◌, ◌≤◌, Bool, false, not, T, ◌⊎◌, sym, ap, ◌∙◌, subst, inl, inr, le_trans, le_of_eq, le_refl, lt_of_lt_of_le, lt_of_le_of_lt, add-zero, le_of_lt, add-le-add, mul_assoc, eq-or-lt_of_le, mul-lt-mul_of_pos_right, lt_of_not-le, zero-mul, not-le_of_lt, arith, lt→ltb, pow_pos}
 use native.Mathlib.Nat.{zero-div, pow-succ'}
 use lib.Ieee.{Float, fin, binary64, up, down, of_bits, to_bits, fits}
 use lib.Ieee.Bits.{of_bits-to_bits, to_bits-of_bits, nan_bits_is, of_bits-fits}
@@ -69,7 +69,7 @@ val_mono b c h =
     rw e at (val_more b (c - b))
 
 pub val_back : (b c : ℕ) → val b < val c → b < c
-val_back b c h = lt_of_not_le (λ (g : c ≤ b). not-le_of_lt h (val_mono c b g))
+val_back b c h = lt_of_not-le (λ (g : c ≤ b). not-le_of_lt h (val_mono c b g))
 
 -- the units of a pattern
 pub pattern_units : (b : ℕ) → b < 0x7ff0_0000_0000_0000 → units (of_bits binary64 b) ≡ val b

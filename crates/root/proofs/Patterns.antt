@@ -1,5 +1,5 @@
 -- What a bit pattern of binary64 stands for, as a number of units of 2 ^ -1074, and what `root` does with it.
-use Rattle.std.proofs.Common.{◌≡◌, ℕ, zero, suc, ◌+◌, ◌-◌, ◌*◌, ◌/◌, ◌%◌, ◌^◌, ◌<◌, ◌≤◌, Bool, true, false, cond, not, T, eqb, ltb, leb, ◌⊎◌, sym, refl, ap, ◌∙◌, subst, inl, inr, true≢false, le_of_suc-le-suc, lt_irrefl, mod-eq_of_lt, eq-or-lt_of_le, mul-pos, zero-mul, mul-one, arith, pow_pos, ltb-false, le-ltb, lt_ltb, ne_eqb, le-leb}
+use Rattle.std.proofs.Common.{◌≡◌, ℕ, zero, suc, ◌+◌, ◌-◌, ◌*◌, ◌/◌, ◌%◌, ◌^◌, ◌<◌, ◌≤◌, Bool, true, false, cond, not, T, eqb, ltb, leb, ◌⊎◌, sym, refl, ap, ◌∙◌, subst, inl, inr, true≢false, le_of_suc-le-suc, lt_irrefl, mod-eq_of_lt, eq-or-lt_of_le, mul-pos, zero-mul, mul-one, arith, pow_pos, ltb-false, le-ltb, lt-ltb, ne_eqb, le-leb}
 use borrow.Author.Tests.{lt-leb}
 use lib.Ieee.{Float, nan, inf, fin, binary64, up, down, odd, of_fields, of_bits, to_bits, fits, is_nan, nan_bits, ne}
 use lib.Ieee.Fits.{down_pos}
@@ -39,7 +39,7 @@ units_val b = go (b / 2 ^ 52) refl
     go zero e =
         let h : b < 2 ^ 52 = omega arith in
         let k : b % 2 ^ 52 ≡ b = omega arith in
-        k ∙ sym (ap (λ (t : Bool). cond t b ((2 ^ 52 + b % 2 ^ 52) * 2 ^ (b / 2 ^ 52 - 1))) (lt_ltb b (2 ^ 52) h))
+        k ∙ sym (ap (λ (t : Bool). cond t b ((2 ^ 52 + b % 2 ^ 52) * 2 ^ (b / 2 ^ 52 - 1))) (lt-ltb b (2 ^ 52) h))
     go (suc x) e =
         let h : 2 ^ 52 ≤ b = omega arith in
         let k : x ≡ b / 2 ^ 52 - 1 = omega arith in

@@ -1,5 +1,5 @@
 -- `root x`, which `round` makes of the middle of a short stretch that holds √x, is the double whose bit pattern `root_bits` works out (`root_is`).
-use Rattle.std.proofs.Common.{◌≡◌, ℕ, zero, suc, ◌+◌, ◌-◌, ◌*◌, ◌/◌, ◌%◌, ◌^◌, ◌<◌, ◌≤◌, false, not, T, eqb, sym, refl, ap, ◌∙◌, subst, le_trans, le_of_eq, le_refl, lt_of_lt_of_le, lt_of_le_of_lt, add-le-add, lt_irrefl, mul-le-mul_right, mul_assoc, suc-mul, div-lt_iff_lt-mul, add-mul, lt_of_mul-lt-mul_right, mul-lt-mul_of_pos_right, mul-pos, lt_of_not_le, le-div_iff_mul-le, mul_left_comm, arith, lit≤, eqb→eq, leb→le, pow_pos, pow_mono, pow-add, shl_lt}
+use Rattle.std.proofs.Common.{◌≡◌, ℕ, zero, suc, ◌+◌, ◌-◌, ◌*◌, ◌/◌, ◌%◌, ◌^◌, ◌<◌, ◌≤◌, false, not, T, eqb, sym, refl, ap, ◌∙◌, subst, le_trans, le_of_eq, le_refl, lt_of_lt_of_le, lt_of_le_of_lt, add-le-add, lt_irrefl, mul-le-mul_right, mul_assoc, suc-mul, div-lt_iff_lt-mul, add-mul, lt_of_mul-lt-mul_right, mul-lt-mul_of_pos_right, mul-pos, lt_of_not-le, le-div_iff_mul-le, mul_left_comm, arith, lit≤, eqb→eq, leb→le, pow_pos, pow_mono, pow-add, shl_lt}
 use Prim.Native.Nat.{compare, Ordering}
 use native.Mathlib.Nat.{mul-lt-mul_of_pos_left}
 use lib.Dec.{is_le, compare_is_eq, nleb→lt, eqb_refl}
@@ -9,7 +9,7 @@ use lib.Ieee.Bits.{of_bits-to_bits, of_bits-fits}
 use lib.Ieee.Fits.{round-fits}
 use lib.Ieee.Scale.{grid, round_val}
 use lib.Ieee.Positive.{positive}
-use lib.Ieee.Digits.{size-lt, size_le}
+use lib.Ieee.Digits.{size-lt, size-le}
 use lib.Ieee.Nearest.{closest, closest_same}
 use Rattle.root.specs.Root.{whole, units, root}
 use Rattle.root.specs.Parts.{sig, exp, root_bits}
@@ -95,9 +95,9 @@ middle s H S lo hi = go (s % 2) refl
 
 pub drop_is : (h w : ℕ) → 2 ^ 52 * 2 ^ h ≤ w → w < 2 ^ 53 * 2 ^ h → size w - 53 ≡ h
 drop_is h w lo hi =
-    let a : size w ≤ 53 + h = size_le w (53 + h) (lt_of_lt_of_le hi (le_of_eq (sym (pow-add 2 53 h)))) in
+    let a : size w ≤ 53 + h = size-le w (53 + h) (lt_of_lt_of_le hi (le_of_eq (sym (pow-add 2 53 h)))) in
     let b : 52 + h < size w =
-    lt_of_not_le (λ (g : size w ≤ 52 + h). lt_irrefl w (lt_of_lt_of_le (size-lt w) (le_trans (pow_mono g) (le_trans (le_of_eq (pow-add 2 52 h)) lo)))) in
+    lt_of_not-le (λ (g : size w ≤ 52 + h). lt_irrefl w (lt_of_lt_of_le (size-lt w) (le_trans (pow_mono g) (le_trans (le_of_eq (pow-add 2 52 h)) lo)))) in
     omega arith
 
 -- `omega` takes no number of more than 38 digits, so 2 ^ 1074 is a variable here

@@ -1,5 +1,5 @@
 -- The whole root: `whole k n` is the largest s with s * s ≤ n, for an n below 4 ^ k.
-use Rattle.std.proofs.Common.{◌≡◌, ℕ, zero, suc, ◌+◌, ◌*◌, ◌/◌, ◌^◌, ◌<◌, ◌≤◌, Bool, true, false, cond, not, T, leb, sym, ap, ◌∙◌, le_trans, mul-le-mul_right, mul_assoc, mul_comm, add-mul, mul-le-mul_left, pow-suc, lt_of_not_le, mul-add, not-le_of_lt, arith, leb→le}
+use Rattle.std.proofs.Common.{◌≡◌, ℕ, zero, suc, ◌+◌, ◌*◌, ◌/◌, ◌^◌, ◌<◌, ◌≤◌, Bool, true, false, cond, not, T, leb, sym, ap, ◌∙◌, le_trans, mul-le-mul_right, mul_assoc, mul_comm, add-mul, mul-le-mul_left, pow-suc, lt_of_not-le, mul-add, not-le_of_lt, arith, leb→le}
 use native.Mathlib.Nat.{mul-mul-mul_comm}
 use lib.Dec.{nleb→lt}
 use Rattle.root.specs.Root.{next, whole}
@@ -10,7 +10,7 @@ pub sq_mono : {a b : ℕ} → a ≤ b → a * a ≤ b * b
 sq_mono {a} {b} h = le_trans (mul-le-mul_left a h) (mul-le-mul_right b h)
 
 pub sq_lt_back : (a b : ℕ) → a * a < b * b → a < b
-sq_lt_back a b h = lt_of_not_le (λ (g : b ≤ a). not-le_of_lt h (sq_mono g))
+sq_lt_back a b h = lt_of_not-le (λ (g : b ≤ a). not-le_of_lt h (sq_mono g))
 
 -- (2 s) ^ 2, (2 s + 1) ^ 2 and (2 s + 2) ^ 2
 pub sq_even : (s : ℕ) → s * 2 * (s * 2) ≡ 4 * (s * s)

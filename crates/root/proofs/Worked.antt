@@ -1,5 +1,5 @@
 -- The root's working for a bit pattern: the whole numbers that the code goes through, and what double they make.
-use Rattle.std.proofs.Common.{◌≡◌, ℕ, zero, suc, ◌+◌, ◌-◌, ◌*◌, ◌/◌, ◌%◌, ◌^◌, ◌<◌, ◌≤◌, Bool, true, false, cond, ◌&&◌, T, eqb, ltb, leb, ℤ, pos, negsuc, sym, refl, ap, ◌∙◌, subst, inl, inr, true≢false, lt_of_lt_of_le, le_of_suc-le-suc, lt_irrefl, mul_assoc, lt_of_not_le, zero-mul, mul-one, div-one, mul-div_cancel, arith, ltb→lt, leb→le, pow_pos, pow-add, le-ltb, lt_ltb, leb-false}
+use Rattle.std.proofs.Common.{◌≡◌, ℕ, zero, suc, ◌+◌, ◌-◌, ◌*◌, ◌/◌, ◌%◌, ◌^◌, ◌<◌, ◌≤◌, Bool, true, false, cond, ◌&&◌, T, eqb, ltb, leb, ℤ, pos, negsuc, sym, refl, ap, ◌∙◌, subst, inl, inr, true≢false, lt_of_lt_of_le, le_of_suc-le-suc, lt_irrefl, mul_assoc, lt_of_not-le, zero-mul, mul-one, div-one, mul-div_cancel, arith, ltb→lt, leb→le, pow_pos, pow-add, le-ltb, lt-ltb, leb-false}
 use native.Mathlib.Nat.{zero-div}
 use lib.Pow.{pow-lt}
 use lib.Ieee.{Float, nan, inf, fin, binary64, up, down, size, of_fields, of_bits, to_bits, fits}
@@ -25,7 +25,7 @@ counted_of (fin true m e) a c p = absurd (true≢false p.0)
 counted_of (fin false m e) a c p = tt
 
 pow_le_back : (a l : ℕ) → 2 ^ a ≤ 2 ^ l → a ≤ l
-pow_le_back a l h = le_of_suc-le-suc (lt_of_not_le (λ (g : suc l ≤ a). lt_irrefl (2 ^ l) (lt_of_lt_of_le (pow-lt g) h)))
+pow_le_back a l h = le_of_suc-le-suc (lt_of_not-le (λ (g : suc l ≤ a). lt_irrefl (2 ^ l) (lt_of_lt_of_le (pow-lt g) h)))
 
 -- a double that is not negative is p * 2 ^ k units, for a p of 53 digits at most
 abbrev pub Digits : ℕ → Type 0
@@ -97,7 +97,7 @@ positive_is x f = go (positive x) (pattern x f) (is_positive x f)
 
     go : (z : Bool) → (T z → (0 < to_bits binary64 x) × (to_bits binary64 x < 0x7ff0_0000_0000_0000)) → (0 < to_bits binary64 x → to_bits binary64 x < 0x7ff0_0000_0000_0000 → T z)
         → (ltb 0 (to_bits binary64 x) && ltb (to_bits binary64 x) 0x7ff0_0000_0000_0000) ≡ z
-    go true p q = rw (lt_ltb _ _ (p tt).0, lt_ltb _ _ (p tt).1)
+    go true p q = rw (lt-ltb _ _ (p tt).0, lt-ltb _ _ (p tt).1)
     go false p q = none (to_bits binary64 x) (ltb 0 (to_bits binary64 x)) (ltb (to_bits binary64 x) 0x7ff0_0000_0000_0000) (ltb→lt 0 (to_bits binary64 x)) (ltb→lt (to_bits binary64 x) 0x7ff0_0000_0000_0000) q
 
 -- ---- the root's units

@@ -1,7 +1,7 @@
 -- Numbers below 65,536 as bits of 1,024 words: which are set, and what one more sets. Laws only.
 use Rattle.std.specs.Prelude.{◌≡◌, refl, Bool, true, false, cond, List, [], ◌∷◌, ℕ, zero, suc, ◌+◌, ◌-◌, ◌*◌, ◌/◌, ◌%◌, ◌^◌, ◌≤◌, ◌<◌, ltb, eqb, length, drop, get_or, set, replicate}
 use Rattle.std.proofs.Math.Path.{sym, ap}
-use Rattle.std.proofs.Common.{◌∙◌, subst, mod-lt, div-add-mod', pow-suc, one_mul, add-one, arith, ltb-true, ltb-false, eqb-true, lt_ltb, le-ltb, eq-eqb, length-set, drop-cons, get_or-set_same, get_or_set_other, pow_pos, pow-add, shl_exact}
+use Rattle.std.proofs.Common.{◌∙◌, subst, mod-lt, div-add-mod', pow-suc, one-mul, add-one, arith, ltb-true, ltb-false, eqb-true, lt-ltb, le-ltb, eq-eqb, length-set, drop-cons, get_or-set_same, get_or-set_other, pow_pos, pow-add, shl_exact}
 use Rattle.std.proofs.Math.Nat.{div-eq_of_lt, div_self, zero-div, mul-mod_left}
 use Rattle.std.proofs.lemmas.Bool.{eqb-false}
 use Rattle.std.proofs.lemmas.List.{length-replicate, get_or-replicate}
@@ -56,7 +56,7 @@ set_elsewhere k j w ne = bit_or_lem k w (2 ^ j) ∙ ap (bit_or (bit k w)) (bit_e
 
 -- what `1 << k` is
 pub one_shifted : (k : ℕ) → k < 64 → 1 * 2 ^ k % 2 ^ 64 ≡ 2 ^ k
-one_shifted k h = shl_exact 1 k 64 (omega arith) (omega arith) ∙ one_mul (2 ^ k)
+one_shifted k h = shl_exact 1 k 64 (omega arith) (omega arith) ∙ one-mul (2 ^ k)
 
 -- ---- a number is among others
 
@@ -67,7 +67,7 @@ ltb_suc : (a b : ℕ) → ltb (suc a) (suc b) ≡ ltb a b
 ltb_suc a b = go (ltb a b) refl
   where
     go : (c : Bool) → ltb a b ≡ c → ltb (suc a) (suc b) ≡ ltb a b
-    go true e = lt_ltb (suc a) (suc b) (omega (arith, ltb-true a b e)) ∙ sym e
+    go true e = lt-ltb (suc a) (suc b) (omega (arith, ltb-true a b e)) ∙ sym e
     go false e = le-ltb (suc a) (suc b) (omega (arith, ltb-false a b e)) ∙ sym e
 
 among_cons : (x y : ℕ) (l : List ℕ) → among x (y ∷ l) ≡ cond (eqb y x) true (among x l)
@@ -75,7 +75,7 @@ unfolding place
 among_cons x y l = go (eqb y x)
   where
     go : (b : Bool) → ltb (cond b 0 (suc (place x l))) (suc (length l)) ≡ cond b true (among x l)
-    go true = lt_ltb 0 (suc (length l)) (omega arith)
+    go true = lt-ltb 0 (suc (length l)) (omega arith)
     go false = ltb_suc (place x l) (length l)
 
 abbrev pub marked : List ℕ → ℕ → Bool
@@ -121,7 +121,7 @@ module _ (seen : List ℕ) (t : ℕ) (z : length seen ≡ 1024) (small : t < 655
           ∙ ap (λ (v : ℕ). eqb (bit (x % 64) v) 1) (get_or-set_same seen (t / 64) w 0 (omega (arith, z)))
           ∙ ap (λ (v : ℕ). eqb v 1) (set_elsewhere (x % 64) (t % 64) (get_or seen (t / 64) 0) d)
           ∙ ap (λ (k : ℕ). eqb (bit (x % 64) (get_or seen k 0)) 1) (sym s)
-      go false e = ap (λ (v : ℕ). eqb (bit (x % 64) v) 1) (get_or_set_other seen (t / 64) (x / 64) w 0 (eqb-false (x / 64) (t / 64) e))
+      go false e = ap (λ (v : ℕ). eqb (bit (x % 64) v) 1) (get_or-set_other seen (t / 64) (x / 64) w 0 (eqb-false (x / 64) (t / 64) e))
 
   marks_cons : (l : List ℕ) → Marks seen l → Marks more (t ∷ l)
   marks_cons l m = record { sized = length-set seen (t / 64) _ ∙ z; says = λ x h. go x h (eqb t x) refl ∙ sym (among_cons x t l) }

@@ -1,7 +1,7 @@
 -- Whatever a call is given, the arrays have their lengths after it, and the list its room. Laws only.
 use Rattle.std.specs.Prelude.{◌≡◌, Bool, true, false, cond, not, List, [], ◌∷◌, ◌++◌, ℕ, ◌+◌, ◌-◌, ◌≤◌, ◌<◌, ltb, leb, take, drop, get_or, set}
 use Rattle.std.proofs.Math.Path.{refl}
-use Rattle.std.proofs.Common.{◌∙◌, arith, ltb-true, ltb-false, length-set, length-drop, length-take-le, get_or-take, get_or_set_other}
+use Rattle.std.proofs.Common.{◌∙◌, arith, ltb-true, ltb-false, length-set, length-drop, length-take-le, get_or-take, get_or-set_other}
 use Rattle.std.proofs.Math.ListN.{length}
 use Rattle.std.proofs.lemmas.List.Edits.{length-paste}
 use Rattle.store_definition.specs.Store.{closed, room_of, held_of, length_at, start_of, sound, Outcome, entry_of, holds, kept, added, removed, put_of, drop_of}
@@ -62,8 +62,8 @@ module _ (entries : ℕ) (list tiles bytes : List ℕ) where
             tiled = length-set tiles (held_of list) t;
             whole = length-paste bytes at block (length block) (omega (arith, g.whole, ltb-false (room_of list) (at + length block) f)) (omega arith);
             roomed =
-                get_or_set_other (set list (2 + held_of list) (length block)) 1 0 (held_of list + 1) 0 (λ x. omega (arith, x))
-                ∙ get_or_set_other list (2 + held_of list) 0 (length block) 0 (λ x. omega (arith, x));
+                get_or-set_other (set list (2 + held_of list) (length block)) 1 0 (held_of list + 1) 0 (λ x. omega (arith, x))
+                ∙ get_or-set_other list (2 + held_of list) 0 (length block) 0 (λ x. omega (arith, x));
           }
 
   drop_keeps : (t : ℕ) → Kept given (store_call entries (Drop t) given).1
@@ -91,7 +91,7 @@ module _ (entries : ℕ) (list tiles bytes : List ℕ) where
             whole = closed_same bytes (start_of list k) (length_at list k) (start_of list (held_of list))
                 (start_ends list k (held_of list) h (omega (arith, g.lists, g.few))) (omega (arith, g.whole, g.fitting));
             roomed =
-                get_or_set_other c 1 0 (held_of list - 1) 0 (λ x. omega (arith, x))
+                get_or-set_other c 1 0 (held_of list - 1) 0 (λ x. omega (arith, x))
                 ∙ closed_first list (2 + k) 1 (2 + held_of list) (omega arith) (omega (arith, g.lists, g.few));
           }
 

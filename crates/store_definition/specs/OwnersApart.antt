@@ -1,6 +1,6 @@
 -- The owners are apart: in every sequence of both owners' calls and of resets, what an owner sees is what its own calls and the same resets give on a store of its own. Laws only.
 use Rattle.std.specs.Prelude.{◌≡◌, refl, ◌⊎◌, Bool, true, false, cond, ◌&&◌, List, [], ◌∷◌, ℕ, zero, suc, ◌+◌, ◌-◌, ◌*◌, ◌≤◌, eqb, length, drop, get_or, set}
-use Rattle.std.proofs.Common.{sym, ap, ◌∙◌, subst, inl, inr, arith, length-set, get_or-set_same, get_or_set_other}
+use Rattle.std.proofs.Common.{sym, ap, ◌∙◌, subst, inl, inr, arith, length-set, get_or-set_same, get_or-set_other}
 use borrow.Author.Tests.{le-ltb, eqb-true, eqb-false, eq-eqb, ne_eqb}
 use Rattle.grid.specs.LoopLaws.{both}
 use Rattle.answers.specs.declared.Answer.{Answer}
@@ -260,7 +260,7 @@ module _ (w : Arrays) (f : LaidOut w) where
   reset_is e = rw e
 
   kept_at : (i : ℕ) → (i ≡ 2 → ⊥) → (i ≡ 36 → ⊥) → get_or w0.list i 0 ≡ get_or w.list i 0
-  kept_at i a b = get_or_set_other (set w.list 2 0) 36 i 0 0 b ∙ get_or_set_other w.list 2 i 0 0 a
+  kept_at i a b = get_or-set_other (set w.list 2 0) 36 i 0 0 b ∙ get_or-set_other w.list 2 i 0 0 a
 
   quota_reset : (o : ℕ) → o ≤ 1 → quota_of o w0.list ≡ quota_of o w.list
   quota_reset o h = one_of_two o h (λ o. quota_of o w0.list ≡ quota_of o w.list) (kept_at 1 (λ x. omega (arith, x)) (λ x. omega (arith, x))) (kept_at 35 (λ x. omega (arith, x)) (λ x. omega (arith, x)))
@@ -407,19 +407,19 @@ module _ (list tiles bytes : List ℕ) (quota0 quota1 : ℕ) (small : length byt
 
   at_room : room_of list0 ≡ length bytes
   at_room =
-      get_or_set_other list5 69 0 (length bytes - quota0 - quota1) 0 (λ x. omega (arith, x))
-      ∙ get_or_set_other (set (set (set (set list 0 (length bytes)) 1 quota0) 2 0) 35 quota1) 36 0 0 0 (λ x. omega (arith, x))
-      ∙ get_or_set_other (set (set (set list 0 (length bytes)) 1 quota0) 2 0) 35 0 quota1 0 (λ x. omega (arith, x))
-      ∙ get_or_set_other (set (set list 0 (length bytes)) 1 quota0) 2 0 0 0 (λ x. omega (arith, x))
-      ∙ get_or_set_other (set list 0 (length bytes)) 1 0 quota0 0 (λ x. omega (arith, x))
+      get_or-set_other list5 69 0 (length bytes - quota0 - quota1) 0 (λ x. omega (arith, x))
+      ∙ get_or-set_other (set (set (set (set list 0 (length bytes)) 1 quota0) 2 0) 35 quota1) 36 0 0 0 (λ x. omega (arith, x))
+      ∙ get_or-set_other (set (set (set list 0 (length bytes)) 1 quota0) 2 0) 35 0 quota1 0 (λ x. omega (arith, x))
+      ∙ get_or-set_other (set (set list 0 (length bytes)) 1 quota0) 2 0 0 0 (λ x. omega (arith, x))
+      ∙ get_or-set_other (set list 0 (length bytes)) 1 0 quota0 0 (λ x. omega (arith, x))
       ∙ get_or-set_same list 0 (length bytes) 0 (omega (arith, long))
 
   at_quota0 : quota_of 0 list0 ≡ quota0
   at_quota0 =
-      get_or_set_other list5 69 1 (length bytes - quota0 - quota1) 0 (λ x. omega (arith, x))
-      ∙ get_or_set_other (set (set (set (set list 0 (length bytes)) 1 quota0) 2 0) 35 quota1) 36 1 0 0 (λ x. omega (arith, x))
-      ∙ get_or_set_other (set (set (set list 0 (length bytes)) 1 quota0) 2 0) 35 1 quota1 0 (λ x. omega (arith, x))
-      ∙ get_or_set_other (set (set list 0 (length bytes)) 1 quota0) 2 1 0 0 (λ x. omega (arith, x))
+      get_or-set_other list5 69 1 (length bytes - quota0 - quota1) 0 (λ x. omega (arith, x))
+      ∙ get_or-set_other (set (set (set (set list 0 (length bytes)) 1 quota0) 2 0) 35 quota1) 36 1 0 0 (λ x. omega (arith, x))
+      ∙ get_or-set_other (set (set (set list 0 (length bytes)) 1 quota0) 2 0) 35 1 quota1 0 (λ x. omega (arith, x))
+      ∙ get_or-set_other (set (set list 0 (length bytes)) 1 quota0) 2 1 0 0 (λ x. omega (arith, x))
       ∙ get_or-set_same (set list 0 (length bytes)) 1 quota0 0 (omega (arith, long, length-set list 0 (length bytes)))
 
   long3 : length (set (set (set list 0 (length bytes)) 1 quota0) 2 0) ≡ 70
@@ -430,8 +430,8 @@ module _ (list tiles bytes : List ℕ) (quota0 quota1 : ℕ) (small : length byt
 
   at_quota1 : quota_of 1 list0 ≡ quota1
   at_quota1 =
-      get_or_set_other list5 69 35 (length bytes - quota0 - quota1) 0 (λ x. omega (arith, x))
-      ∙ get_or_set_other (set (set (set (set list 0 (length bytes)) 1 quota0) 2 0) 35 quota1) 36 35 0 0 (λ x. omega (arith, x))
+      get_or-set_other list5 69 35 (length bytes - quota0 - quota1) 0 (λ x. omega (arith, x))
+      ∙ get_or-set_other (set (set (set (set list 0 (length bytes)) 1 quota0) 2 0) 35 quota1) 36 35 0 0 (λ x. omega (arith, x))
       ∙ get_or-set_same (set (set (set list 0 (length bytes)) 1 quota0) 2 0) 35 quota1 0 (omega (arith, long3))
 
   long5 : length list5 ≡ 70

@@ -6,7 +6,7 @@ use Rattle.std.proofs.Math.Logic.{⊎_elim}
 use Rattle.std.proofs.Math.Bool.{true, false}
 use mathlib.Core.List.{List, [], ◌∷◌, ◌++◌, append-nil}
 use native.Mathlib.Omega.{arith}
-use borrow.Author.Tests.{leb-false, ltb-false, eqb-true, eq-eqb, le-ltb, lt_ltb}
+use borrow.Author.Tests.{leb-false, ltb-false, eqb-true, eq-eqb, le-ltb, lt-ltb}
 use Rattle.std.proofs.Math.Dec.{eqb}
 use Rattle.std.proofs.Math.ListN.{length, take, drop, set, length-append, length-drop}
 use Rattle.std.proofs.Math.Seq.{length-take-le, take-length, paste}
@@ -168,7 +168,7 @@ module _ (entries room : ℕ) where
       at_is = ap (place t) h.tiled ∙ s.at
 
       is_found : ltb (place t (take (length m) tiles)) (length m) ≡ true
-      is_found = lt_ltb (place t (take (length m) tiles)) (length m) (omega (arith, at_is, whole_length))
+      is_found = lt-ltb (place t (take (length m) tiles)) (length m) (omega (arith, at_is, whole_length))
 
       tiles_cut : take (length m) tiles ≡ keys s.front ++ ((t ∷ []) ++ keys s.back)
       unfolding keys

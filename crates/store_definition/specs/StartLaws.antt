@@ -1,6 +1,6 @@
 -- Where blocks start: sums of the lengths before them. Laws only.
 use Rattle.std.specs.Prelude.{◌≡◌, refl, List, [], ◌∷◌, ◌++◌, ℕ, zero, suc, ◌+◌, ◌≤◌, ◌<◌, length, take, drop, get_or}
-use Rattle.std.proofs.Common.{ap, ◌∙◌, add-zero, add-one, arith, length-drop, take_suc, get_or-drop}
+use Rattle.std.proofs.Common.{ap, ◌∙◌, add-zero, add-one, arith, length-drop, take-suc, get_or-drop}
 use Rattle.store_definition.specs.Store.{sum, start_of, length_at}
 
 pub sum_append : (l m : List ℕ) → sum (l ++ m) ≡ sum l + sum m
@@ -16,7 +16,7 @@ pub start_more : (list : List ℕ) (k : ℕ) → 2 + k < length list → start_o
 unfolding sum
 start_more list k h =
     let l : List ℕ = drop 2 list in
-    ap (λ (j : ℕ). sum (take j l)) (add-one k) ∙ ap sum (take_suc l k 0 (omega (arith, length-drop 2 list))) ∙ sum_append (take k l) (get_or l k 0 ∷ [])
+    ap (λ (j : ℕ). sum (take j l)) (add-one k) ∙ ap sum (take-suc l k 0 (omega (arith, length-drop 2 list))) ∙ sum_append (take k l) (get_or l k 0 ∷ [])
     ∙ ap (λ (x : ℕ). sum (take k l) + x) (add-zero (get_or l k 0) ∙ get_or-drop 2 list k 0)
 
 sum_take : (k n : ℕ) (l : List ℕ) → k ≤ n → sum (take k l) ≤ sum (take n l)

@@ -7,7 +7,7 @@ use Rattle.std.proofs.Math.Decide.{ℕ_discrete, dec_lt}
 use native.Mathlib.Omega.{arith}
 use Rattle.std.specs.Float.Ieee.{nan}
 use Rattle.std.proofs.Math.ListN.{length-set, length-append, length-replicate, get_or-replicate, get_or-append}
-use Rattle.std.proofs.Math.Seq.{get_or-set_same, get_or_set_other, get_or-append-add, ext_get_or}
+use Rattle.std.proofs.Math.Seq.{get_or-set_same, get_or-set_other, get_or-append-add, ext_get_or}
 use Rattle.grid.specs.Loop.{upto}
 use Rattle.grid.specs.LoopLaws.{upto_keeps, upto_both}
 use Rattle.grid.specs.Real.{Vec, at, zeros, zero64, one64}
@@ -84,7 +84,7 @@ module _ (m n : ℕ) (a : Vec) where
 
   eye_else : (w : Vec) (x : ℕ) → ((j : ℕ) → j < r → x ≡ L * r + j * r + j → ⊥) → at (eyed L r w) x ≡ at w x
   unfolding eyed
-  eye_else w x h = upto_keeps (λ y z. at y x ≡ at w x) (eye_step L r) (eye_step L r) 0 r w w (λ j y z b c e. get_or_set_other y (L * r + j * r + j) x one64 nan (h j c) ∙ e) refl
+  eye_else w x h = upto_keeps (λ y z. at y x ≡ at w x) (eye_step L r) (eye_step L r) 0 r w w (λ j y z b c e. get_or-set_other y (L * r + j * r + j) x one64 nan (h j c) ∙ e) refl
 
   eye_at : (w : Vec) → length w ≡ all → (j : ℕ) → j < r → at (eyed L r w) (L * r + j * r + j) ≡ one64
   unfolding eyed
@@ -99,7 +99,7 @@ module _ (m n : ℕ) (a : Vec) where
             ap (λ (t : ℕ). at (set y (L * r + k * r + k) one64) (L * r + t * r + t)) e
             ∙ get_or-set_same y (L * r + k * r + k) one64 nan (omega (arith, h.0, cell r r k k c c))
         | no d ↦
-            get_or_set_other y (L * r + k * r + k) (L * r + j * r + j) one64 nan (λ e. d (one_place r j j k k (omega arith) c (omega (arith, e))).0)
+            get_or-set_other y (L * r + k * r + k) (L * r + j * r + j) one64 nan (λ e. d (one_place r j j k k (omega arith) c (omega (arith, e))).0)
             ∙ h.1 j (omega arith)
       ]
 

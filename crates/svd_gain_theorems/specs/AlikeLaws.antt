@@ -1,6 +1,6 @@
 -- Stores keep two vectors alike. Laws only.
 use Rattle.std.specs.Prelude.{◌≡◌, refl, Bool, true, false, ℕ, ◌≤◌, ◌<◌, ltb, eqb, pos, Float, length, set}
-use Rattle.std.proofs.Common.{sym, ap, ◌∙◌, arith, ltb-true, ltb-false, lt_ltb, le-ltb, eqb-true, length-set, get_or-set_same, get_or_set_other}
+use Rattle.std.proofs.Common.{sym, ap, ◌∙◌, arith, ltb-true, ltb-false, lt-ltb, le-ltb, eqb-true, length-set, get_or-set_same, get_or-set_other}
 use Rattle.std.proofs.lemmas.Bool.{eqb-false}
 use Rattle.std.specs.Float.{nan}
 use Rattle.std.proofs.Math.ListN.{get_or-eq_default}
@@ -30,7 +30,7 @@ alike_put κ μ w v i x {y} m h e =
         rw (s, set_out w i x l, set_out v i y n, get_or-eq_default w nan l, get_or-eq_default v nan n)
     go j false p c q =
         let o : j ≡ i → ⊥ = eqb-false j i p in
-        rw (get_or_set_other w i j x nan o, get_or_set_other v i j y nan o, m j o) (h.each j)
+        rw (get_or-set_other w i j x nan o, get_or-set_other v i j y nan o, m j o) (h.each j)
 
 pub alike_set : (κ : ℕ → ℕ) (w v : Vec) (i : ℕ) (x : Float) {y : Float} → Alike κ w v → Scaled (κ i) x y → Alike κ (set w i x) (set v i y)
 alike_set κ w v i x = alike_put κ κ w v i x (λ j _. refl)
@@ -40,7 +40,7 @@ pub alike_as : (κ μ : ℕ → ℕ) (w v : Vec) → ((i : ℕ) → Scaled (κ i
 alike_as κ μ w v f h = record { long = h.long; each = λ i. f i (h.each i) }
 
 pub under_in : (k n i : ℕ) → i < n → under k n i ≡ k
-under_in k n i h = rw (lt_ltb i n h)
+under_in k n i h = rw (lt-ltb i n h)
 
 pub under_out : (k n i : ℕ) → n ≤ i → under k n i ≡ 0
 under_out k n i h = rw (le-ltb i n h)

@@ -1,7 +1,7 @@
 -- One operation of binary64 on numbers that are multiplied by powers of two: the result is multiplied by the power that is due. Laws only.
 use Rattle.std.specs.Prelude.{◌≡◌, refl, Bool, ◌||◌, ◌&&◌, leb, eqb, ℤ, pos, negsuc, Float}
 use Rattle.std.proofs.Math.Path.{sym, ap₂}
-use Rattle.std.proofs.Common.{ap, ◌∙◌, subst, subst₂, true≢false, one_mul, mul_comm, mul_assoc, mul_left_comm, add-mul, mul-pos, mul-le-mul_right, zero-mul, mul-zero, zero-add, lt_of_not_le, not-le_of_lt, arith, leb→le, eqb→eq, eqb-true, pow-add, pow_pos}
+use Rattle.std.proofs.Common.{ap, ◌∙◌, subst, subst₂, true≢false, one-mul, mul_comm, mul_assoc, mul_left_comm, add-mul, mul-pos, mul-le-mul_right, zero-mul, mul-zero, zero-add, lt_of_not-le, not-le_of_lt, arith, leb→le, eqb→eq, eqb-true, pow-add, pow_pos}
 use Rattle.std.proofs.Math.Bool.{true, false, cond}
 use Rattle.std.specs.Bool.{beq}
 use Prim.Native.Nat.{ℕ, zero, suc, ◌+◌, ◌-◌, ◌*◌, ◌%◌, ◌^◌, ◌≤◌, ◌<◌}
@@ -181,7 +181,7 @@ pub exact : (s : Bool) (z Z c : ℕ) → 0 < c → z * 2 ^ 1074 ≡ Z * c → T 
 exact s z zero c C h t = eq_of_mul-eq-mul_right (2 ^ 1074) (pow_pos 1074) z 0 (h ∙ zero-mul c ∙ sym (zero-mul (2 ^ 1074)))
 exact s z (suc Z) c C h t =
     let one : 1 * c ≤ suc Z * c = mul-le-mul_right c (omega arith) in
-    let low : c ≤ z * 2 ^ 1074 = subst (λ (x : ℕ). c ≤ x) (sym h) (subst (λ (x : ℕ). x ≤ suc Z * c) (one_mul c) one) in
+    let low : c ≤ z * 2 ^ 1074 = subst (λ (x : ℕ). c ≤ x) (sym h) (subst (λ (x : ℕ). x ≤ suc Z * c) (one-mul c) one) in
     absurd (true≢false (sym (is _ t) ∙ round_some s z c C low))
 
 module _ (k c c' : ℕ) (C : 0 < c) (C' : 0 < c') where
@@ -220,13 +220,13 @@ module _ (k c c' : ℕ) (C : 0 < c) (C' : 0 < c') where
 
 -- a double is a whole number of units
 pub lower : (j : ℕ) → 2 ^ suc j ≤ 2 ^ 1074 → suc j ≤ 1074
-lower j h = le_of_suc_le_suc' (lt_of_not_le (λ (g : suc 1074 ≤ suc j). not-le_of_lt (pow-lt g) h))
+lower j h = le_of_suc_le_suc' (lt_of_not-le (λ (g : suc 1074 ≤ suc j). not-le_of_lt (pow-lt g) h))
   where
     le_of_suc_le_suc' : suc j < suc 1074 → suc j ≤ 1074
     le_of_suc_le_suc' h = omega arith
 
 pub units_of : (e : ℤ) → down e ≤ 2 ^ 1074 → (r : ℕ) × (down e * r ≡ 2 ^ 1074)
-units_of (pos j) h = (2 ^ 1074, one_mul (2 ^ 1074))
+units_of (pos j) h = (2 ^ 1074, one-mul (2 ^ 1074))
 units_of (negsuc j) h =
     let g : suc j ≤ 1074 = lower j h in
     let i : suc j + (1074 - suc j) ≡ 1074 = omega arith in
@@ -239,7 +239,7 @@ fits_low s zero e h = flat e (eqb→eq (up e * down e) 1 h)
     flat : (e : ℤ) → up e * down e ≡ 1 → down e ≤ 2 ^ 1074
     flat (pos j) g = pow_pos 1074
     flat (negsuc j) g =
-        let o : 2 ^ suc j ≡ 1 = sym (one_mul (2 ^ suc j)) ∙ g in
+        let o : 2 ^ suc j ≡ 1 = sym (one-mul (2 ^ suc j)) ∙ g in
         subst (λ (x : ℕ). x ≤ 2 ^ 1074) (sym o) (pow_pos 1074)
 fits_low s (suc m) e h =
     leb→le (down e) (2 ^ 1074) (and_r (eqb (suc m % 2) 1 && ltb (suc m) (2 ^ 53)) (leb (down e) (2 ^ 1074)) (and_l (eqb (suc m % 2) 1 && ltb (suc m) (2 ^ 53) && leb (down e) (2 ^ 1074)) (ltb (suc m * up e) (2 ^ 1024 * down e)) h))

@@ -1,6 +1,6 @@
 -- Into the work array and out of it, in two runs: what is loaded of matrices that differ by 2 ^ k, the order of values that do, and the results that are laid out. Laws only.
 use Rattle.std.specs.Prelude.{◌≡◌, refl, Bool, true, false, cond, not, ◌||◌, ◌&&◌, List, ℕ, ◌+◌, ◌*◌, ◌≤◌, ◌<◌, ltb, leb, eqb, Float, length, set, get_or, replicate}
-use Rattle.std.proofs.Common.{sym, ap, ap₂, ◌∙◌, subst, mul_comm, arith, ltb-true, ltb-false, lt_ltb, le-ltb}
+use Rattle.std.proofs.Common.{sym, ap, ap₂, ◌∙◌, subst, mul_comm, arith, ltb-true, ltb-false, lt-ltb, le-ltb}
 use Rattle.std.specs.Float.{nan}
 use Rattle.std.specs.Float.Ieee.{lt}
 use Rattle.std.proofs.lemmas.List.{length-replicate, get_or-replicate}
@@ -101,11 +101,11 @@ factor_power k n base t i h = go (ltb i n)
   where
     go : (b : Bool) → cond b 0 (cond b k (cond (ltb i base) 0 (cond (ltb i (base + t)) k 0))) ≡ 0
     go true = refl
-    go false = rw (lt_ltb i base h)
+    go false = rw (lt-ltb i base h)
 
 value_power : (k n base t i : ℕ) → n ≤ base → i < t → powers k n base n t (base + i) ≡ k
 value_power k n base t i p q =
-    rw (le-ltb (base + i) n (omega arith), le-ltb (base + i) base (omega arith), lt_ltb (base + i) (base + t) (omega arith))
+    rw (le-ltb (base + i) n (omega arith), le-ltb (base + i) base (omega arith), lt-ltb (base + i) (base + t) (omega arith))
 
 present_less : (flag r k : ℕ) → k < present flag r → k < r
 unfolding present

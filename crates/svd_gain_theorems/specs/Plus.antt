@@ -1,6 +1,6 @@
 -- Numbers with no minus sign: a square is one, a sum of two is one, and such a sum is zero only where both are. Laws only.
 use Rattle.std.specs.Prelude.{◌≡◌, refl, Bool, true, false, ℕ, zero, suc, ◌+◌, ◌*◌, ◌^◌, ◌<◌, T, eqb, Float}
-use Rattle.std.proofs.Common.{sym, ap₂, ◌∙◌, subst, true≢false, mul-pos, zero-mul, add-mul, arith, lt_ltb}
+use Rattle.std.proofs.Common.{sym, ap₂, ◌∙◌, subst, true≢false, mul-pos, zero-mul, add-mul, arith, lt-ltb}
 use Rattle.std.specs.Float.{nan, inf, fin, binary64}
 use Rattle.std.specs.Float.Ieee.{of_bits, up, down, units, round, sum, add, mul, lt, fits}
 use Rattle.std.specs.Float.Ieee.Fits.{round_is, up_pos, down_pos}
@@ -75,7 +75,7 @@ lt_plus (inf s) X z = absurd X
 lt_plus (fin true m e) X z = absurd X
 lt_plus (fin false zero e) X z = absurd (true≢false z)
 lt_plus (fin false (suc m) e) X z =
-    lt_ltb (0 * down e) (suc m * up e * 1) (subst (λ (x : ℕ). x < suc m * up e * 1) (sym (zero-mul (down e))) (mul-pos (mul-pos (omega arith) (up_pos e)) (omega arith)))
+    lt-ltb (0 * down e) (suc m * up e * 1) (subst (λ (x : ℕ). x < suc m * up e * 1) (sym (zero-mul (down e))) (mul-pos (mul-pos (omega arith) (up_pos e)) (omega arith)))
 
 root_of_plus : (u : ℕ) → T (fine (root_of u)) → T (counted (root_of u))
 unfolding root_of

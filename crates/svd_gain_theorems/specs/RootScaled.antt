@@ -1,13 +1,13 @@
 -- The root of a number times 4 ^ k is 2 ^ k times its root, in the normal range. Laws only.
 -- `root` rounds the middle of a stretch that holds the root, so this goes by the whole root: its digits past the last that counts don't matter.
 use Rattle.std.specs.Prelude.{◌≡◌, refl, Bool, true, false, not, cond, ◌&&◌, ℕ, zero, suc, ◌+◌, ◌-◌, ◌*◌, ◌/◌, ◌%◌, ◌^◌, ◌≤◌, ◌<◌, T, ltb, leb, eqb, ℤ, pos, ◌+ℤ◌, Float}
-use Rattle.std.proofs.Common.{sym, ap, ap₂, ◌∙◌, subst, true≢false, one_mul, mul-zero, mul_comm, mul_assoc, mul_left_comm, mul-pos, mul-le-mul_right, mul-lt-mul_of_pos_right, add_comm, lt_of_mul-lt-mul_right, lt_of_lt_of_le, lt_of_le_of_lt, lt_of_not_le, not-le_of_lt, add-zero, add-suc, div-one, le-div_iff_mul-le, div-lt_iff_lt-mul, mul-div_cancel, div-add-mod', pow-suc, div-mul-le_self, mod-lt, arith, ltb→lt, lit≤, pow-add, pow_pos, pow_mono, shr-shr}
+use Rattle.std.proofs.Common.{sym, ap, ap₂, ◌∙◌, subst, true≢false, one-mul, mul-zero, mul_comm, mul_assoc, mul_left_comm, mul-pos, mul-le-mul_right, mul-lt-mul_of_pos_right, add_comm, lt_of_mul-lt-mul_right, lt_of_lt_of_le, lt_of_le_of_lt, lt_of_not-le, not-le_of_lt, add-zero, add-suc, div-one, le-div_iff_mul-le, div-lt_iff_lt-mul, mul-div_cancel, div-add-mod', pow-suc, div-mul-le_self, mod-lt, arith, ltb→lt, lit≤, pow-add, pow_pos, pow_mono, shr-shr}
 use Rattle.std.proofs.Math.Nat.{mul-lt-mul_of_pos_left, lt_of_mul-lt-mul_left, div-div-eq-div-mul}
 use Rattle.std.proofs.Math.Dec.{nleb→lt}
 use Rattle.std.specs.Float.{nan, inf, fin, binary64}
 use Rattle.std.specs.Float.Ieee.{up, down, size, round, fits}
 use Rattle.std.specs.Float.Ieee as Ieee
-use Rattle.std.specs.Float.Ieee.Digits.{size-lt, size_le, size_reaches}
+use Rattle.std.specs.Float.Ieee.Digits.{size-lt, size-le, size_reaches}
 use Rattle.std.specs.Float.Ieee.Fits.{round_is, up_pos, down_pos, and_r}
 use Rattle.std.specs.Float.Ieee.Nearest.{closest, closest_same, div_same}
 use Rattle.std.specs.Float.Ieee.Order.{drop, kept}
@@ -90,8 +90,8 @@ whole_pos (suc j) n p h = go (ltb 0 (n / 4)) (ltb→lt 0 (n / 4)) (whole j (n / 
 -- t more digits, with as many times 4 in the number
 pub whole_scale : (J t n : ℕ) → 0 < n → n * 2 ^ (t + t) < 2 ^ (J + J) → whole J (n * 2 ^ (t + t)) / 2 ^ t ≡ whole J n
 whole_scale J t n p h =
-    let one : 2 ^ (t + t) ≤ n * 2 ^ (t + t) = subst (λ (x : ℕ). x ≤ n * 2 ^ (t + t)) (one_mul (2 ^ (t + t))) (mul-le-mul_right (2 ^ (t + t)) p) in
-    let l : t + t < J + J = lt_of_not_le (λ (g : J + J ≤ t + t). not-le_of_lt (lt_of_le_of_lt (pow_mono g) (lt_of_le_of_lt one h)) (omega arith)) in
+    let one : 2 ^ (t + t) ≤ n * 2 ^ (t + t) = subst (λ (x : ℕ). x ≤ n * 2 ^ (t + t)) (one-mul (2 ^ (t + t))) (mul-le-mul_right (2 ^ (t + t)) p) in
+    let l : t + t < J + J = lt_of_not-le (λ (g : J + J ≤ t + t). not-le_of_lt (lt_of_le_of_lt (pow_mono g) (lt_of_le_of_lt one h)) (omega arith)) in
     let j = J - t in
     let e : j + t ≡ J = omega arith in
     let u : (j + j) + (t + t) ≡ J + J = omega arith in
@@ -141,7 +141,7 @@ size_cut x t h =
     let z = size (x / 2 ^ t) in
     let lo : 2 ^ (z - 1) * 2 ^ t ≤ x = (le-div_iff_mul-le (pow_pos t)).0 (size_reaches (x / 2 ^ t) (z - 1) (pred_lt z h)) in
     let hi : x < 2 ^ z * 2 ^ t = (div-lt_iff_lt-mul (pow_pos t)).0 (size-lt (x / 2 ^ t)) in
-    join z t (size x) h (size_le x (z + t) (subst (λ (y : ℕ). x < y) (sym (pow-add 2 z t)) hi))
+    join z t (size x) h (size-le x (z + t) (subst (λ (y : ℕ). x < y) (sym (pow-add 2 z t)) hi))
     (size_gt x (z - 1 + t) (subst (λ (y : ℕ). y ≤ x) (sym (pow-add 2 (z - 1) t)) lo))
 
 half_cut : (w t : ℕ) → w / 2 / 2 ^ t ≡ w / 2 ^ t / 2

@@ -3,14 +3,14 @@
 -- does not round to zero.
 use Rattle.std.specs.Prelude.{◌≡◌, Bool, true, false, cond, ◌||◌, T, ltb, eqb, pos, Float}
 use Rattle.std.proofs.Math.Path.{refl}
-use Rattle.std.proofs.Common.{sym, ap, ◌∙◌, subst, true≢false, le_trans, le_of_eq, lt_of_lt_of_le, lt_of_not_le, not-le_of_lt, one_mul, mul_comm, mul_assoc, mul_left_comm, mul_right_comm, mul-le-mul_right, mul-lt-mul_of_pos_right, lt_of_mul-lt-mul_right, mul-pos, le-div_iff_mul-le, div-lt_iff_lt-mul, zero-mul, arith, ltb→lt, pow-add, pow_pos, pow_mono}
+use Rattle.std.proofs.Common.{sym, ap, ◌∙◌, subst, true≢false, le_trans, le_of_eq, lt_of_lt_of_le, lt_of_not-le, not-le_of_lt, one-mul, mul_comm, mul_assoc, mul_left_comm, mul_right_comm, mul-le-mul_right, mul-lt-mul_of_pos_right, lt_of_mul-lt-mul_right, mul-pos, le-div_iff_mul-le, div-lt_iff_lt-mul, zero-mul, arith, ltb→lt, pow-add, pow_pos, pow_mono}
 use Prim.Native.Nat.{ℕ, zero, suc, ◌+◌, ◌-◌, ◌*◌, ◌/◌, ◌%◌, ◌^◌, ◌≤◌, ◌<◌, compare}
 use Rattle.std.proofs.Math.Nat.{div-div-eq-div-mul}
 use Rattle.std.proofs.Math.Dec.{eqb-suc-zero}
 use Rattle.std.specs.Int.Count.{count_trailing_zeros}
 use Rattle.std.specs.Float.{nan, inf, fin, binary64}
 use Rattle.std.specs.Float.Ieee.{low, up, down, minus, size, odd, units, round}
-use Rattle.std.specs.Float.Ieee.Digits.{size-lt, size_le, size_reaches, odd_val}
+use Rattle.std.specs.Float.Ieee.Digits.{size-lt, size-le, size_reaches, odd_val}
 use Rattle.std.specs.Float.Ieee.Fits.{round_is, down_pos}
 use Rattle.std.specs.Float.Ieee.Exact.{HasValue, units_val, odd_sign}
 use Rattle.std.specs.Float.Ieee.Nearest.{closest, closest_same, nearest-ge}
@@ -22,7 +22,7 @@ use Rattle.svd_gain_theorems.specs.ScaleLaws.{moved_pos, minus_shift}
 -- ---- 2 ^ t times a fraction whose whole part has p digits at least: t more digits are dropped, and the same number is kept (the kit proves these two, and keeps them to itself)
 
 pub size_gt : (n j : ℕ) → 2 ^ j ≤ n → j < size n
-size_gt n j h = lt_of_not_le (λ (g : size n ≤ j). not-le_of_lt (lt_of_lt_of_le (size-lt n) (pow_mono g)) h)
+size_gt n j h = lt_of_not-le (λ (g : size n ≤ j). not-le_of_lt (lt_of_lt_of_le (size-lt n) (pow_mono g)) h)
 
 pub join : (z t x : ℕ) → 0 < z → x ≤ z + t → z - 1 + t < x → x ≡ z + t
 join z t x Z a b = omega arith
@@ -37,7 +37,7 @@ size_scale n c t C Z =
     let hi : n < 2 ^ z * c = (div-lt_iff_lt-mul C).0 (size-lt (n / c)) in
     let lo' : 2 ^ (z - 1 + t) * c ≤ n * 2 ^ t = le_trans (le_of_eq (ap (λ (x : ℕ). x * c) (pow-add 2 (z - 1) t) ∙ mul_right_comm (2 ^ (z - 1)) (2 ^ t) c)) (mul-le-mul_right (2 ^ t) lo) in
     let hi' : n * 2 ^ t < 2 ^ (z + t) * c = lt_of_lt_of_le (mul-lt-mul_of_pos_right hi (pow_pos t)) (le_of_eq (mul_right_comm (2 ^ z) c (2 ^ t) ∙ ap (λ (x : ℕ). x * c) (sym (pow-add 2 z t)))) in
-    join z t (size (n * 2 ^ t / c)) Z (size_le (n * 2 ^ t / c) (z + t) ((div-lt_iff_lt-mul C).1 hi')) (size_gt (n * 2 ^ t / c) (z - 1 + t) ((le-div_iff_mul-le C).1 lo'))
+    join z t (size (n * 2 ^ t / c)) Z (size-le (n * 2 ^ t / c) (z + t) ((div-lt_iff_lt-mul C).1 hi')) (size_gt (n * 2 ^ t / c) (z - 1 + t) ((le-div_iff_mul-le C).1 lo'))
 
 pub more : (z p t x : ℕ) → p ≤ z → x ≡ z + t → x - p ≡ z - p + t
 more z p t x h e = omega arith
@@ -196,7 +196,7 @@ round_some s a c C h =
     let n = a * 2 ^ 1074 in
     let X = n / c in
     let k = size X - 53 in
-    let one : 2 ^ 0 ≤ X = (le-div_iff_mul-le C).1 (subst (λ (x : ℕ). x ≤ n) (sym (one_mul c)) h) in
-    let low : 1 * 2 ^ k ≤ X = subst (λ (x : ℕ). x ≤ X) (sym (one_mul (2 ^ k))) (size_reaches X k (less (size X) (size_gt X 0 one))) in
+    let one : 2 ^ 0 ≤ X = (le-div_iff_mul-le C).1 (subst (λ (x : ℕ). x ≤ n) (sym (one-mul c)) h) in
+    let low : 1 * 2 ^ k ≤ X = subst (λ (x : ℕ). x ≤ X) (sym (one-mul (2 ^ k))) (size_reaches X k (less (size X) (size_gt X 0 one))) in
     let part : 1 ≤ n / (c * 2 ^ k) = subst (λ (x : ℕ). 1 ≤ x) (div-div-eq-div-mul n c (2 ^ k)) ((le-div_iff_mul-le (pow_pos k)).1 low) in
     ap is_zero (round_is binary64 s a c) ∙ units_some s (kept 53 n c) k (le_trans part (nearest-ge (n / (c * 2 ^ k)) (compare (n % (c * 2 ^ k) * 2) (c * 2 ^ k))))

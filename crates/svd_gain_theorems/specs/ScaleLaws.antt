@@ -1,6 +1,6 @@
 -- The value of a number times a power of two. Laws only.
 use Rattle.std.specs.Prelude.{◌≡◌, refl, Bool, true, false, not, cond, ℕ, zero, suc, ◌+◌, ◌-◌, ◌*◌, ◌^◌, ◌≤◌, ◌<◌, T, ltb, leb, ℤ, pos, negsuc, ◌+ℤ◌, Float}
-use Rattle.std.proofs.Common.{sym, ap, ◌∙◌, mul-one, one_mul, mul_assoc, zero-mul, arith, ltb→lt, nltb→le, leb→le, pow-add}
+use Rattle.std.proofs.Common.{sym, ap, ◌∙◌, mul-one, one-mul, mul_assoc, zero-mul, arith, ltb→lt, nltb→le, leb→le, pow-add}
 use Rattle.std.proofs.Math.Dec.{nleb→lt}
 use Rattle.std.proofs.Math.IntN.{+ℤ_idr}
 use Rattle.std.specs.Float.{nan, inf, fin}
@@ -20,10 +20,10 @@ shift (negsuc j) k = go (ltb k (suc j)) (ltb→lt k (suc j)) (nltb→le k (suc j
         → up (cond b (negsuc (suc j - suc k)) (pos (k - suc j))) * 2 ^ suc j ≡ 1 * 2 ^ k * down (cond b (negsuc (suc j - suc k)) (pos (k - suc j)))
     go true l g =
         let h : k < suc j = l tt in
-        one_mul (2 ^ suc j) ∙ sym (ap (λ (x : ℕ). x * 2 ^ suc (suc j - suc k)) (one_mul (2 ^ k)) ∙ pow_at k (suc (suc j - suc k)) (suc j) (omega arith))
+        one-mul (2 ^ suc j) ∙ sym (ap (λ (x : ℕ). x * 2 ^ suc (suc j - suc k)) (one-mul (2 ^ k)) ∙ pow_at k (suc (suc j - suc k)) (suc j) (omega arith))
     go false l g =
         let h : suc j ≤ k = g tt in
-        pow_at (k - suc j) (suc j) k (omega arith) ∙ sym (mul-one (1 * 2 ^ k) ∙ one_mul (2 ^ k))
+        pow_at (k - suc j) (suc j) k (omega arith) ∙ sym (mul-one (1 * 2 ^ k) ∙ one-mul (2 ^ k))
 
 pub moved_val : (k m : ℕ) (e : ℤ) → m * up (moved (pos k) m e) * down e ≡ m * up e * 2 ^ k * down (moved (pos k) m e)
 moved_val k zero e = simp zero-mul

@@ -1,6 +1,6 @@
 -- `scale` is what a multiplication does: x times the number 2 ^ k, rounded, is `scale k x` exactly, where that is a double. Laws only.
 use Rattle.std.specs.Prelude.{◌≡◌, refl, Bool, true, false, ◌&&◌, ℕ, zero, suc, ◌+◌, ◌-◌, ◌*◌, ◌%◌, ◌^◌, ◌≤◌, ◌<◌, T, ltb, leb, eqb, ℤ, pos, negsuc, ◌+ℤ◌, Float}
-use Rattle.std.proofs.Common.{sym, ap, ◌∙◌, subst, one_mul, mul-one, mul_comm, mul_assoc, mul_right_comm, mul-pos, zero-mul, mul-lt-mul_of_pos_right, lt_of_mul-lt-mul_right, arith, ltb→lt, eqb→eq, pow-add, pow_pos}
+use Rattle.std.proofs.Common.{sym, ap, ◌∙◌, subst, one-mul, mul-one, mul_comm, mul_assoc, mul_right_comm, mul-pos, zero-mul, mul-lt-mul_of_pos_right, lt_of_mul-lt-mul_right, arith, ltb→lt, eqb→eq, pow-add, pow_pos}
 use Rattle.std.proofs.Math.IntN.{+ℤ-neg_ℤ_cancel}
 use Rattle.std.proofs.Math.Pow.{pow-lt}
 use Rattle.std.specs.Float.{nan, inf, fin, binary64}
@@ -24,7 +24,7 @@ lifted (pos i) h = (i + 1074, sym (pow-add 2 i 1074) ∙ sym (mul-one (2 ^ (i + 
 lifted (negsuc i) h =
     let g : suc i ≤ 1074 = lower i h in
     let o : 1074 - suc i + suc i ≡ 1074 = omega arith in
-    (1074 - suc i, one_mul (2 ^ 1074) ∙ sym (ap (λ (x : ℕ). 2 ^ x) o) ∙ pow-add 2 (1074 - suc i) (suc i))
+    (1074 - suc i, one-mul (2 ^ 1074) ∙ sym (ap (λ (x : ℕ). 2 ^ x) o) ∙ pow-add 2 (1074 - suc i) (suc i))
 
 significand : Float → ℕ
 significand (fin s m e) = m
@@ -82,7 +82,7 @@ not_one j h =
 flat : (e : ℤ) → up e * down e ≡ 1 → pos 0 ≡ e
 flat (pos zero) h = refl
 flat (pos (suc j)) h = absurd (not_one j (sym (mul-one (2 ^ suc j)) ∙ h))
-flat (negsuc j) h = absurd (not_one j (sym (one_mul (2 ^ suc j)) ∙ h))
+flat (negsuc j) h = absurd (not_one j (sym (one-mul (2 ^ suc j)) ∙ h))
 
 -- ---- the theorem
 
@@ -109,7 +109,7 @@ scale_times k (fin s (suc m) e) F =
   where
     cross : suc m * up e * (1 * up k) * down (e +ℤ k) ≡ suc m * up (e +ℤ k) * (down e * down k)
     cross =
-        ap (λ (x : ℕ). suc m * up e * x * down (e +ℤ k)) (one_mul (up k))
+        ap (λ (x : ℕ). suc m * up e * x * down (e +ℤ k)) (one-mul (up k))
         ∙ ap (λ (x : ℕ). x * down (e +ℤ k)) (mul_assoc (suc m) (up e) (up k))
         ∙ mul_assoc (suc m) (up e * up k) (down (e +ℤ k))
         ∙ ap (λ (x : ℕ). suc m * x) (joined e k)

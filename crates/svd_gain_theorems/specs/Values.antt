@@ -2,7 +2,7 @@
 -- A column whose norm is zero is all zeros, since no square of a nonzero number is zero, and so it is the same in both too.
 use Rattle.std.specs.Prelude.{◌≡◌, Bool, true, false, cond, ◌||◌, T, ltb, pos, Float, set, take, drop}
 use Rattle.std.proofs.Math.Path.{refl, sym, subst}
-use Rattle.std.proofs.Common.{ap, ap₂, ◌∙◌, true≢false, add-zero, add-mul, zero-mul, mul_comm, one_mul, arith, ltb-true, ltb-false, lt_ltb, le-ltb, get_or_set_other}
+use Rattle.std.proofs.Common.{ap, ap₂, ◌∙◌, true≢false, add-zero, add-mul, zero-mul, mul_comm, one-mul, arith, ltb-true, ltb-false, lt-ltb, le-ltb, get_or-set_other}
 use Prim.Native.Nat.{ℕ, ◌+◌, ◌-◌, ◌*◌, ◌≤◌, ◌<◌}
 use Rattle.std.specs.Float.{nan, binary64}
 use Rattle.std.specs.Float.Ieee.{of_bits, fits, lt}
@@ -104,7 +104,7 @@ ltb_next : (i b c : ℕ) → c ≡ b + 1 → (i ≡ b → ⊥) → ltb i c ≡ l
 ltb_next i b c e o = go (ltb i b) refl
   where
     go : (x : Bool) → ltb i b ≡ x → ltb i c ≡ ltb i b
-    go true g = lt_ltb i c (omega (arith, ltb-true i b g)) ∙ sym g
+    go true g = lt-ltb i c (omega (arith, ltb-true i b g)) ∙ sym g
     go false g = le-ltb i c (omega (arith, ltb-false i b g, o)) ∙ sym g
 
 powers_start : (k n base i : ℕ) → powers k n base 0 0 i ≡ under k n i
@@ -119,13 +119,13 @@ powers_put k n base b t i o = rw (ltb_next i (base + t) (base + (t + 1)) (omega 
 
 powers_value : (k n base b t : ℕ) → b ≤ n → n ≤ base → powers k n base b (t + 1) (base + t) ≡ k
 powers_value k n base b t p q =
-    rw (le-ltb (base + t) b (omega arith), le-ltb (base + t) n (omega arith), le-ltb (base + t) base (omega arith), lt_ltb (base + t) (base + (t + 1)) (omega arith))
+    rw (le-ltb (base + t) b (omega arith), le-ltb (base + t) n (omega arith), le-ltb (base + t) base (omega arith), lt-ltb (base + t) (base + (t + 1)) (omega arith))
 
 powers_in : (k n base b t i : ℕ) → b ≤ i → i < n → powers k n base b t i ≡ k
-powers_in k n base b t i p q = rw (le-ltb i b p, lt_ltb i n q)
+powers_in k n base b t i p q = rw (le-ltb i b p, lt-ltb i n q)
 
 powers_done : (k n base b t i : ℕ) → i < b → powers k n base b t i ≡ 0
-powers_done k n base b t i p = rw (lt_ltb i b p)
+powers_done k n base b t i p = rw (lt-ltb i b p)
 
 powers_next : (k n base b c t i : ℕ) → c ≡ b + 1 → (i ≡ b → ⊥) → powers k n base c t i ≡ powers k n base b t i
 powers_next k n base b c t i e o = rw (ltb_next i b c e o)
@@ -211,7 +211,7 @@ module _ (k rows cols : ℕ) where
       next : (p q : Vec) → Alike (stage k rows cols (a + rows) (j + 1)) p q
           → Alike (stage k rows cols ((j + 1) * rows) (j + 1)) p q
       next p q =
-          subst (λ (b : ℕ). Alike (stage k rows cols b (j + 1)) p q) (ap (λ (r : ℕ). j * rows + r) (sym (one_mul rows)) ∙ sym (add-mul j 1 rows))
+          subst (λ (b : ℕ). Alike (stage k rows cols b (j + 1)) p q) (ap (λ (r : ℕ). j * rows + r) (sym (one-mul rows)) ∙ sym (add-mul j 1 rows))
 
       go : (b : Bool) → lt zero64 x ≡ b
           → Alike (stage k rows cols ((j + 1) * rows) (j + 1)) (cond (lt zero64 x) (divided a rows x w1) w1) (cond (lt zero64 y) (divided a rows y v1) v1)
@@ -220,7 +220,7 @@ module _ (k rows cols : ℕ) where
         where
           zero : (i : ℕ) → i < rows → is_zero (at w1 (a + i)) ≡ true
           zero i l =
-              ap is_zero (get_or_set_other w (value_at rows cols j) (a + i) x nan (λ o. omega (arith, ends, o)))
+              ap is_zero (get_or-set_other w (value_at rows cols j) (a + i) x nan (λ o. omega (arith, ends, o)))
               ∙ (column_zero a rows w f.squares).all (root_above (norm_sq a rows w) totals.left f.norm e) i l
 
   -- ---- all columns

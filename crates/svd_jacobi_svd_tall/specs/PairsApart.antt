@@ -1,7 +1,7 @@
 -- Pairs of four different columns may change places: neither reads or turns a number of the other. Laws only.
 use Rattle.std.specs.Prelude.{◌≡◌, ◌≢◌, ℕ, ◌+◌, ◌*◌, ◌≤◌, ◌<◌, Float}
 use Rattle.std.proofs.Math.Path.{refl, sym, ap}
-use Rattle.std.proofs.Common.{◌∙◌, mul_comm, arith, get_or_set_other}
+use Rattle.std.proofs.Common.{◌∙◌, mul_comm, arith, get_or-set_other}
 use Rattle.std.proofs.Math.Bool.{Bool, true, false, cond}
 use Rattle.std.specs.Float.{nan}
 use Rattle.std.proofs.Math.ListN.{set}
@@ -40,13 +40,13 @@ module _ (a b : ℕ) (r : Rotation) where
       keep w =
           let first = r.c ⊗ at w (a + i) ⊖ r.s ⊗ at w (b + i) in
           let second = r.s ⊗ at w (a + i) ⊕ r.c ⊗ at w (b + i) in
-          get_or_set_other (set w (a + i) first) (b + i) k second nan q ∙ get_or_set_other w (a + i) k first nan p
+          get_or-set_other (set w (a + i) first) (b + i) k second nan q ∙ get_or-set_other w (a + i) k first nan p
 
       store : (x : Float) (w : Vec) → rotate_step a b r i (set w k x) ≡ set (rotate_step a b r i w) k x
       store x w =
           let first = r.c ⊗ at w (a + i) ⊖ r.s ⊗ at w (b + i) in
           let second = r.s ⊗ at w (a + i) ⊕ r.c ⊗ at w (b + i) in
-          rw (get_or_set_other w k (a + i) x nan (λ e. p (sym e)), get_or_set_other w k (b + i) x nan (λ e. q (sym e)), set_comm w k (a + i) x first p, set_comm (set w (a + i) first) k (b + i) x second q)
+          rw (get_or-set_other w k (a + i) x nan (λ e. p (sym e)), get_or-set_other w k (b + i) x nan (λ e. q (sym e)), set_comm w k (a + i) x first p, set_comm (set w (a + i) first) k (b + i) x second q)
 
   -- and so do the columns
   rotated_leaves : (rows k : ℕ) → ((i : ℕ) → i < rows → (k ≢ a + i) × (k ≢ b + i)) → Leaves k (rotated a b rows r)

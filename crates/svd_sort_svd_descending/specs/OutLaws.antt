@@ -1,7 +1,7 @@
 -- How the code lays a result out, factor by factor, and that this is the result; no promise speaks of it. Laws only.
 use Rattle.std.specs.Prelude.{◌≡◌, refl, Bool, true, false, cond, ltb, leb, eqb, Float, length, set, get_or, replicate}
 use Rattle.std.proofs.Math.Path.{sym, ap, subst}
-use Rattle.std.proofs.Common.{◌∙◌, zero-mul, mod-lt, div-lt_iff_lt-mul, arith, length-set, get_or-set_same, get_or_set_other, ext_get_or}
+use Rattle.std.proofs.Common.{◌∙◌, zero-mul, mod-lt, div-lt_iff_lt-mul, arith, length-set, get_or-set_same, get_or-set_other, ext_get_or}
 use mathlib.Core.List.{List, ◌++◌}
 use Prim.Native.Nat.{ℕ, zero, suc, ◌+◌, ◌-◌, ◌*◌, ◌/◌, ◌%◌, ◌≤◌, ◌<◌}
 use Rattle.std.proofs.Math.Nat.{mul-one, div-add-mod'}
@@ -55,7 +55,7 @@ column_below : (from rows to down x : ℕ) (w res : Vec) → x < to → at (colu
 unfolding column_out
 column_below from rows to down x w res h =
     upto_keeps (λ y z. at y x ≡ at res x) (cell_step from to down w) (cell_step from to down w) 0 rows res res
-    (λ i y z a b e. get_or_set_other y (to + i * down) x (at w (from + i)) nan (λ q. omega arith) ∙ e) refl
+    (λ i y z a b e. get_or-set_other y (to + i * down) x (at w (from + i)) nan (λ q. omega arith) ∙ e) refl
 
 factor_below : (cols from rows to down across x : ℕ) (w : Vec) (o : List ℕ) (res : Vec) → x < to → at (factor_out cols from rows to down across w o res) x ≡ at res x
 unfolding factor_out
@@ -83,7 +83,7 @@ module _ (cols rows : ℕ) (idx : ℕ → ℕ → ℕ) (val : ℕ → ℕ → Fl
   pub stored_else : (x : ℕ) (res : Vec) → ((k i : ℕ) → k < cols → i < rows → x ≡ idx k i → ⊥) → at (upto column 0 cols res) x ≡ at res x
   stored_else x res h =
       upto_keeps (λ y z. at y x ≡ at res x) column column 0 cols res res
-      (λ k y z a b e. upto_keeps (λ u v. at u x ≡ at res x) (put k) (put k) 0 rows y y (λ i u v c d g. get_or_set_other u (idx k i) x (val k i) nan (h k i b d) ∙ g) e) refl
+      (λ k y z a b e. upto_keeps (λ u v. at u x ≡ at res x) (put k) (put k) 0 rows y y (λ i u v c d g. get_or-set_other u (idx k i) x (val k i) nan (h k i b d) ∙ g) e) refl
 
   module _ (n : ℕ) (room : (k i : ℕ) → k < cols → i < rows → idx k i < n) (apart : (k i l j : ℕ) → k < cols → i < rows → l < cols → j < rows → idx k i ≡ idx l j → (k ≡ l) × (i ≡ j)) where
     -- columns before k are there, and of column k the first i
@@ -101,7 +101,7 @@ module _ (cols rows : ℕ) (idx : ℕ → ℕ → ℕ) (val : ℕ → ℕ → Fl
         }
       where
         other : (l j : ℕ) → l < cols → j < rows → ((l ≡ k) × (j ≡ i) → ⊥) → at (put k i res) (idx l j) ≡ at res (idx l j)
-        other l j a b d = get_or_set_other res (idx k i) (idx l j) (val k i) nan (λ e. d (apart l j k i a b p q e))
+        other l j a b d = get_or-set_other res (idx k i) (idx l j) (val k i) nan (λ e. d (apart l j k i a b p q e))
 
         now_at : (j : ℕ) → j < i + 1 → j < rows → at (put k i res) (idx k j) ≡ val k j
         now_at j a b = elim (ℕ_discrete j i) [

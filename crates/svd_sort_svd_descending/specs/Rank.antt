@@ -1,6 +1,6 @@
 -- A column's place is below r, and so is the column that comes to a place; and the list in which the code notes the columns at their places. Laws only.
 use Rattle.std.specs.Prelude.{◌≡◌, refl, Bool, true, false, cond, List, ℕ, zero, suc, ◌+◌, ◌<◌, ◌≤◌, ltb, eqb, Float, length, set, get_or, replicate}
-use Rattle.std.proofs.Common.{sym, ap, ◌∙◌, add-one, arith, le-ltb, eqb-true, ltb-true, ltb-false, length-set, get_or-set_same, get_or_set_other}
+use Rattle.std.proofs.Common.{sym, ap, ◌∙◌, add-one, arith, le-ltb, eqb-true, ltb-true, ltb-false, length-set, get_or-set_same, get_or-set_other}
 use Rattle.std.proofs.lemmas.Bool.{eqb-false}
 use Rattle.std.proofs.lemmas.List.{length-replicate, get_or-replicate}
 use Rattle.std.proofs.Math.ListN.{get_or-eq_default}
@@ -75,7 +75,7 @@ set_below x p j k r a b = go (eqb k p) refl
 
     go : (t : Bool) → eqb k p ≡ t → get_or (set x p j) k 0 < r
     go true q = here (ltb p (length x)) refl (eqb-true _ _ q)
-    go false q = rw (get_or_set_other x p k j 0 (eqb-false _ _ q)) b
+    go false q = rw (get_or-set_other x p k j 0 (eqb-false _ _ q)) b
 
 -- each column is noted at its place
 abbrev pub note_step : (ℕ → Float) → ℕ → ℕ → List ℕ → List ℕ
@@ -107,7 +107,7 @@ set_there x p j t h = go (eqb p t) refl
   where
     go : (b : Bool) → eqb p t ≡ b → get_or (set x p j) t 0 ≡ cond b j (get_or x t 0)
     go true e = ap (λ (q : ℕ). get_or (set x p j) q 0) (sym (eqb-true p t e)) ∙ get_or-set_same x p j 0 (rw (eqb-true p t e) h)
-    go false e = get_or_set_other x p t j 0 (λ q. eqb-false p t e (sym q))
+    go false e = get_or-set_other x p t j 0 (λ q. eqb-false p t e (sym q))
 
 module _ (s : ℕ → Float) (r t : ℕ) (o : List ℕ) (h : t < length o) where
   there : (j : ℕ) → (length (upto (note_step s r) 0 j o) ≡ length o) × (get_or (upto (note_step s r) 0 j o) t 0 ≡ upto (place_step s r t) 0 j (get_or o t 0))

@@ -1,6 +1,6 @@
 -- What is known of the sizes where a result is made, and that every part stands within its array. Laws only.
 use Rattle.std.specs.Prelude.{◌≡◌, refl, Bool, true, false, cond, List, ℕ, ◌+◌, ◌*◌, ◌≤◌, ◌<◌, ltb, leb, eqb, length}
-use Rattle.std.proofs.Common.{sym, ap, mul_comm, arith, lt_ltb, le-ltb, ltb-true, ltb-false, leb-true, leb-false}
+use Rattle.std.proofs.Common.{sym, ap, mul_comm, arith, lt-ltb, le-ltb, ltb-true, ltb-false, leb-true, leb-false}
 use Rattle.std.proofs.Math.Nat.{mul-one, mul-le-mul_right}
 use Rattle.grid.specs.Real.{Vec}
 use Rattle.grid.specs.CellLaws.{cell}
@@ -29,7 +29,7 @@ pub record Out (cols from rows to down across : ℕ) (w : Vec) (o : List ℕ) (r
 
 pub wide_longest : (m n : ℕ) → m < n → longest m n ≡ n
 unfolding longest
-wide_longest m n h = rw (lt_ltb m n h)
+wide_longest m n h = rw (lt-ltb m n h)
 
 pub tall_longest : (m n : ℕ) → n ≤ m → longest m n ≡ m
 unfolding longest
@@ -37,7 +37,7 @@ tall_longest m n h = rw (le-ltb m n h)
 
 pub wide_least : (m n : ℕ) → m < n → least m n ≡ m
 unfolding least
-wide_least m n h = rw (lt_ltb m n h)
+wide_least m n h = rw (lt-ltb m n h)
 
 pub tall_least : (m n : ℕ) → n ≤ m → least m n ≡ n
 unfolding least

@@ -4,7 +4,7 @@ use Rattle.std.specs.Prelude.{◌≡◌, Bool, ℕ, zero, suc, ◌+◌, ◌<◌,
 use Rattle.std.proofs.Math.Path.{refl}
 use Rattle.std.proofs.Common.{sym, ap, ◌∙◌, true≢false, arith}
 use Rattle.std.proofs.Math.Bool.{true, false, cond}
-use borrow.Author.Tests.{ltb-true, ltb-false, lt_ltb, eqb-true, eqb-false}
+use borrow.Author.Tests.{ltb-true, ltb-false, lt-ltb, eqb-true, eqb-false}
 use Rattle.std.proofs.Math.Dec.{eqb}
 use Rattle.std.specs.Float.Ieee.{lt}
 use Rattle.grid.specs.LoopLaws.{upto_both}
@@ -109,7 +109,7 @@ module _ (s : ℕ → Float) (r : ℕ) (finite : (k : ℕ) → k < r → is_fini
     where
       go : (t : Bool) → lt (s j) (s i) ≡ t → ahead s i j ≡ true
       go true g = rw g
-      go false g = rw (g, e, lt_ltb i j l)
+      go false g = rw (g, e, lt-ltb i j l)
 
   ahead_not_less : (i j : ℕ) → ahead s i j ≡ true → lt (s i) (s j) ≡ false
   ahead_not_less i j h = go (lt (s j) (s i)) refl (lt (s i) (s j)) refl

@@ -6,7 +6,7 @@ use Prim.Native.Nat.{ℕ, ◌+◌, ◌*◌, ◌-◌, ◌/◌, ◌%◌, ◌≤◌
 use Rattle.std.proofs.Math.Nat.{div-add-mod'}
 use Rattle.std.proofs.Math.Decide.{dec_lt}
 use native.Mathlib.Omega.{arith}
-use borrow.Author.Tests.{le-leb, lt_ltb, ne_eqb, eq-eqb}
+use borrow.Author.Tests.{le-leb, lt-ltb, ne_eqb, eq-eqb}
 use Rattle.std.specs.Float.Ieee.{nan}
 use Rattle.std.proofs.Math.ListN.{length}
 use Rattle.std.proofs.Math.Seq.{get_or-take, get_or-drop}
@@ -58,7 +58,7 @@ module _ (m n want_u want_vt limit : ℕ) (matrix work result : Vec) (z : (svd m
       let res : Vec = (svd m n want_u want_vt limit matrix work result).2 in
       let a : ℕ = least m n + present want_u (m * least m n) + k * n in
       let there : row_span (length res) m n want_u want_vt k ≡ At a (a + n) =
-      rw (le-leb m 256 taken.tall, le-leb n 256 taken.wide, ne_eqb want_vt 0 flag, lt_ltb k (least m n) p, eq-eqb (length res) (decomposition_length m n want_u want_vt) svd_long) in
+      rw (le-leb m 256 taken.tall, le-leb n 256 taken.wide, ne_eqb want_vt 0 flag, lt-ltb k (least m n) p, eq-eqb (length res) (decomposition_length m n want_u want_vt) svd_long) in
       let whole : a + n - a ≡ n = omega arith in
       let here : a + j ≡ vt_cell m n want_u k j = omega arith in
       ap (λ (s : Span). at (part_of res s) j) there

@@ -1,6 +1,6 @@
 -- What the code has at each of its returns is the outcome. Laws only.
 use Rattle.std.specs.Prelude.{◌≡◌, ℕ, ◌+◌, ◌≤◌, ◌<◌, leb, get_or, set}
-use Rattle.std.proofs.Common.{sym, ap, ◌∙◌, arith, leb-true, lt_ltb, le-ltb, ne_eqb}
+use Rattle.std.proofs.Common.{sym, ap, ◌∙◌, arith, leb-true, lt-ltb, le-ltb, ne_eqb}
 use Rattle.tally_definition.specs.Tallies.{small, refusal, next, outcome}
 use Rattle.tally_definition.specs.TallyLaws.{Taken}
 use Rattle.grid.specs.LoopLaws.{every_at}
@@ -35,7 +35,7 @@ grown t answer passes top place =
 pub led : (t : Tally) (answer passes r : ℕ) → r ≡ refusal t answer passes → r ≡ 0 → t.most < passes
     → reply 0 (grown t answer passes passes t.tiles) ≡ outcome t answer passes
 unfolding next
-led t answer passes r e z h = let w = taken_is t answer passes (sym e ∙ z) in (rw (lt_ltb t.most passes h) at w)
+led t answer passes r e z h = let w = taken_is t answer passes (sym e ∙ z) in (rw (lt-ltb t.most passes h) at w)
 
 pub kept : (t : Tally) (answer passes r : ℕ) → r ≡ refusal t answer passes → r ≡ 0 → passes ≤ t.most
     → reply 0 (grown t answer passes t.most t.first) ≡ outcome t answer passes

@@ -1,6 +1,6 @@
 -- T32: after any series of tiles each figure of the tally is the one counted from the list of the tiles that were added (`counted`), which those are (`taken_accepted`), and what each tile is answered (`answered`, of the call `replied`, `refused_stays`). Laws only.
 use Rattle.std.specs.Prelude.{◌≡◌, refl, Bool, true, false, cond, ◌⊎◌, List, [], ◌∷◌, ◌++◌, ℕ, zero, suc, ◌+◌, ◌*◌, ◌≤◌, ◌<◌, ltb, leb, eqb, length, get_or, set, take}
-use Rattle.std.proofs.Common.{sym, ap, ◌∙◌, inl, inr, ⊎_elim, append-nil, append_assoc, not-suc-le-zero, le_antisymm, add-one, arith, ltb-true, ltb-false, leb-true, le-ltb, le-leb, eqb-true, eq-eqb, ne_eqb, length-append, length-set, ext_get_or, get_or-set_same, get_or_set_other}
+use Rattle.std.proofs.Common.{sym, ap, ◌∙◌, inl, inr, ⊎_elim, append-nil, append_assoc, not-suc-le-zero, le_antisymm, add-one, arith, ltb-true, ltb-false, leb-true, le-ltb, le-leb, eqb-true, eq-eqb, ne_eqb, length-append, length-set, ext_get_or, get_or-set_same, get_or-set_other}
 use Rattle.std.proofs.lemmas.Bool.{eqb-false}
 use Rattle.std.proofs.Math.ListN.{get_or-append}
 use Rattle.std.proofs.lemmas.List.{get_or_at}
@@ -167,7 +167,7 @@ more_counts l x h = ext_get_or 0 (set (counts l) x.answer c) (counts (more l x))
         ∙ ap (λ (k : ℕ). k + 1) (table_at (λ a. count a l) 16 x.answer h ∙ ap (λ (k : ℕ). count k l) w)
         ∙ sym (new i g true e)
     each i g false e =
-        get_or_set_other (counts l) x.answer i c 0 (λ (w : i ≡ x.answer). eqb-false x.answer i e (sym w))
+        get_or-set_other (counts l) x.answer i c 0 (λ (w : i ≡ x.answer). eqb-false x.answer i e (sym w))
         ∙ table_at (λ a. count a l) 16 i g ∙ omega arith ∙ sym (new i g false e)
 
 -- the rule's step is the figures' step

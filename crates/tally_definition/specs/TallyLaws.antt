@@ -1,6 +1,6 @@
 -- What holds where a tile is taken. Laws only.
 use Rattle.std.specs.Prelude.{◌≡◌, refl, Bool, true, false, cond, ℕ, ◌≤◌, ◌<◌, ltb, leb}
-use Rattle.std.proofs.Common.{arith, ltb-true, leb-true, lt_ltb, le-leb}
+use Rattle.std.proofs.Common.{arith, ltb-true, leb-true, lt-ltb, le-leb}
 use Rattle.grid.specs.LoopLaws.{both}
 use Rattle.tally_definition.specs.Figures.{in_range}
 use Rattle.tally_definition.specs.Tallies.{small, fit, refusal}
@@ -47,7 +47,7 @@ takes t answer passes w =
     rw (
       le-leb answer 15 w.answers,
       le-leb passes 15360 w.short,
-      lt_ltb t.tiles 65536 w.room,
+      lt-ltb t.tiles 65536 w.room,
       le-leb t.passes 1006632960 w.sum,
       le-leb t.most 15360 w.top,
       le-leb t.first 65535 w.place,

@@ -1,7 +1,7 @@
 -- T8: a text is read as n, limit and words exactly where it is their writing (`exactly`: `accepts` and `accepted`), and it is the writing of one n, limit and list of words at the most (`one_writing`). Laws only.
 use Rattle.std.specs.Prelude.{◌≡◌, Bool, true, false, cond, ◌&&◌, ◌↔◌, ltb, eqb, length, get_or, take, drop}
 use Rattle.std.proofs.Math.Path.{refl}
-use Rattle.std.proofs.Common.{sym, ap, ◌∙◌, not-suc-le-zero, mul-le-mul, add-one, arith, ltb-true, ltb-false, lt_ltb, le-ltb, eqb-true, eq-eqb, length-drop, drop_at, take-add, take_all, drop-drop, ext_get_or}
+use Rattle.std.proofs.Common.{sym, ap, ◌∙◌, not-suc-le-zero, mul-le-mul, add-one, arith, ltb-true, ltb-false, lt-ltb, le-ltb, eqb-true, eq-eqb, length-drop, drop_at, take-add, take_all, drop-drop, ext_get_or}
 use Rattle.std.proofs.Math.Logic.{⊎_elim}
 use mathlib.Core.List.{List, [], ◌∷◌, ◌++◌, append_assoc}
 use Prim.Native.Nat.{ℕ, zero, suc, ◌+◌, ◌*◌, ◌^◌, ◌≤◌, ◌<◌}
@@ -85,7 +85,7 @@ word_read t n start k w h b e =
     let p = parts 16 (take 16 (drop at t)) (digits 16 16 (w k)) (byte t (at + 16) ∷ []) (separator n k ∷ [])
     (part_length t at 16 (omega arith)) (digits_length 16 16 (w k)) (sym (take_more t at 16 (omega arith)) ∙ e) in
     let r = taken t at 16 (w k) (omega arith) b p.0 in
-    let d : every (digit_at t at) 16 ≡ true = every_all (digit_at t at) 16 (λ i l. lt_ltb (value_at t at i) 16 (r.1 i l)) in
+    let d : every (digit_at t at) 16 ≡ true = every_all (digit_at t at) 16 (λ i l. lt-ltb (value_at t at i) 16 (r.1 i l)) in
     (rw (d, eq-eqb (byte t (at + 16)) (separator n k) (one_of (byte t (at + 16)) (separator n k) p.1)), r.0)
 
 -- ---- tables

@@ -1,6 +1,6 @@
 -- Digits and their values, words. Laws only.
 use Rattle.std.specs.Prelude.{◌≡◌, refl, Bool, true, false, cond, ◌⊎◌, List, [], ◌∷◌, ◌++◌, ℕ, zero, suc, ◌+◌, ◌-◌, ◌*◌, ◌/◌, ◌%◌, ◌^◌, ◌≤◌, ◌<◌, ltb, length, take, drop}
-use Rattle.std.proofs.Common.{sym, ap, ◌∙◌, inl, inr, ⊎_elim, not-suc-le-zero, pow-suc, add-one, arith, ltb-true, ltb-false, lt_ltb, le-ltb, length-append}
+use Rattle.std.proofs.Common.{sym, ap, ◌∙◌, inl, inr, ⊎_elim, not-suc-le-zero, pow-suc, add-one, arith, ltb-true, ltb-false, lt-ltb, le-ltb, length-append}
 use Rattle.std.proofs.Math.Nat.{pow-le-pow_right}
 use Rattle.text.specs.Writing.{glyph, digits}
 use Rattle.text.specs.Reading.{value, value_at, digit_at, horner}
@@ -18,14 +18,14 @@ digits_length b (suc k) n = length-append (digits b k (n / b)) (glyph (n % b) �
 
 pub value_low : (b : ℕ) → 48 ≤ b → b < 58 → value b ≡ b - 48
 unfolding value
-value_low b h g = rw (le-ltb b 48 h, lt_ltb b 58 g)
+value_low b h g = rw (le-ltb b 48 h, lt-ltb b 58 g)
 
 pub value_high : (b : ℕ) → 97 ≤ b → b < 103 → value b ≡ b - 87
 unfolding value
 value_high b h g =
     let p : 48 ≤ b = omega arith in
     let q : 58 ≤ b = omega arith in
-    rw (le-ltb b 48 p, le-ltb b 58 q, le-ltb b 97 h, lt_ltb b 103 g)
+    rw (le-ltb b 48 p, le-ltb b 58 q, le-ltb b 97 h, lt-ltb b 103 g)
 
 -- which bytes are digits
 pub digit_cases : (b : ℕ) → value b < 16 → ((48 ≤ b) × (b < 58)) ⊎ ((97 ≤ b) × (b < 103))
@@ -42,7 +42,7 @@ digit_cases b = go (ltb b 48) (ltb b 58) (ltb b 97) (ltb b 103) refl refl refl r
 
 pub glyph_low : (d : ℕ) → d < 10 → glyph d ≡ 48 + d
 unfolding glyph
-glyph_low d h = rw (lt_ltb d 10 h)
+glyph_low d h = rw (lt-ltb d 10 h)
 
 pub glyph_high : (d : ℕ) → 10 ≤ d → glyph d ≡ 87 + d
 unfolding glyph

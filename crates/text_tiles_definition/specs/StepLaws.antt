@@ -1,7 +1,7 @@
 -- What one byte does, by what it is, and what a run of bytes does: pieces of a text, and the text that a number is. Laws only.
 use Rattle.std.specs.Prelude.{◌≡◌, Bool, cond, ◌&&◌, ℕ, zero, suc, ◌+◌, ◌-◌, ◌*◌, ◌/◌, ◌%◌, ◌^◌, ◌≤◌, ◌<◌, ltb, leb, eqb, length, get_or, drop}
 use Rattle.std.proofs.Math.Path.{refl, ap}
-use Rattle.std.proofs.Common.{sym, ◌∙◌, pow-suc, add-one, ltb-true, ltb-false, lt_ltb, le-ltb, le-leb, eq-eqb, ne_eqb, drop_of_length-le, drop-cons}
+use Rattle.std.proofs.Common.{sym, ◌∙◌, pow-suc, add-one, ltb-true, ltb-false, lt-ltb, le-ltb, le-leb, eq-eqb, ne_eqb, drop_of_length-le, drop-cons}
 use Rattle.std.proofs.Math.Bool.{true, false}
 use mathlib.Core.List.{List, [], ◌∷◌, ◌++◌, append_assoc}
 use native.Mathlib.Omega.{arith}
@@ -96,7 +96,7 @@ grown_on s d h = rw (le-ltb (most_of s.stage) (s.value * 10 + d) h)
 
 pub grown_over : (s : Series) (d : ℕ) → most_of s.stage < s.value * 10 + d → grown s d ≡ ended s.tally
 unfolding grown
-grown_over s d h = rw (lt_ltb (most_of s.stage) (s.value * 10 + d) h)
+grown_over s d h = rw (lt-ltb (most_of s.stage) (s.value * 10 + d) h)
 
 pub digit_on : (s : Series) (d : ℕ) → (eqb s.value 0 && s.begun) ≡ false → digit s d ≡ grown s d
 unfolding digit
@@ -111,7 +111,7 @@ on_digit : (s : Series) (d : ℕ) → s.stage < 2 → d < 10 → (eqb s.value 0 
     → step s (48 + d) ≡ state s.tally s.stage s.answer true (s.value * 10 + d)
 on_digit s d low h e m =
     let a : eqb (48 + d) (end_of s.stage) ≡ false = ne_eqb (48 + d) (end_of s.stage) (λ (f : 48 + d ≡ end_of s.stage). omega (arith, end_low s.stage)) in
-    let b : (leb 48 (48 + d) && ltb (48 + d) 58) ≡ true = rw (le-leb 48 (48 + d) (omega arith), lt_ltb (48 + d) 58 (omega arith)) in
+    let b : (leb 48 (48 + d) && ltb (48 + d) 58) ≡ true = rw (le-leb 48 (48 + d) (omega arith), lt-ltb (48 + d) 58 (omega arith)) in
     let c : 48 + d - 48 ≡ d = omega arith in
     step_digit s (48 + d) low a b ∙ ap (digit s) c ∙ digit_on s d e ∙ grown_on s d m
 

@@ -1,13 +1,13 @@
 -- Generated from the answers file beside it by tools/prove/prove.py: edit that.
 -- `answers::least` meets its contract.
-use borrow.Author.Tests.{lt_ltb, le-ltb}
+use borrow.Author.Tests.{lt-ltb, le-ltb}
 use Rattle.answers.specs.Answers.{least}
 use Rattle.answers.proofs.least.Statement.{statement}
 use Rattle.answers.proofs.least.Tie as tie
 
 returns : tie.Need-returns
 unfolding least
-returns c = rw (lt_ltb _ _ c.if1.true)
+returns c = rw (lt-ltb _ _ c.if1.true)
 
 returns-2 : tie.Need-returns-2
 unfolding least

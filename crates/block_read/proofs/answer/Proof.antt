@@ -2,7 +2,7 @@
 -- `block_read::answer` meets its contract.
 use mathlib.Core.Path.{◌∙◌, sym}
 use native.Mathlib.Omega.{arith}
-use borrow.Author.Tests.{eq-eqb, ne_eqb, lt_ltb, le-ltb}
+use borrow.Author.Tests.{eq-eqb, ne_eqb, lt-ltb, le-ltb}
 use Rattle.block_read.specs.Reading.{answer_of, behind}
 use Rattle.block_read.specs.CheckLaws.{dimensions_good}
 use Rattle.block_read.proofs.answer.Statement.{statement}
@@ -10,7 +10,7 @@ use Rattle.block_read.proofs.answer.Tie as tie
 
 returns : tie.Need-returns
 unfolding answer_of
-returns c = rw (lt_ltb _ _ c.if1.true)
+returns c = rw (lt-ltb _ _ c.if1.true)
 
 number-requires : tie.Need-number-requires
 number-requires c κs = omega arith
@@ -36,7 +36,7 @@ add-if3 c = omega (arith, (dimensions_good c.before.before.before.before.number.
 
 returns-3 : tie.Need-returns-3
 unfolding answer_of behind
-returns-3 c = rw (le-ltb _ _ c.before.before.before.before.before.before.if1.false, ← c.before.before.before.before.before.number.ensures.0, ← c.before.before.before.before.number2.ensures.0, ← c.before.before.before.number3.ensures.0, ← c.before.before.dimensions.ensures, eq-eqb _ _ c.before.if2.false, lt_ltb _ _ c.if3.true)
+returns-3 c = rw (le-ltb _ _ c.before.before.before.before.before.before.if1.false, ← c.before.before.before.before.before.number.ensures.0, ← c.before.before.before.before.number2.ensures.0, ← c.before.before.before.number3.ensures.0, ← c.before.before.dimensions.ensures, eq-eqb _ _ c.before.if2.false, lt-ltb _ _ c.if3.true)
 
 entries-requires : tie.Need-entries-requires
 entries-requires c κs = omega (arith, dimensions_good c.before.before.before.before.before.number.result c.before.before.before.before.number2.result c.before.before.before.number3.result (sym c.before.before.dimensions.ensures ∙ c.before.if2.false))

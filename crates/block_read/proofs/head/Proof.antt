@@ -1,7 +1,7 @@
 -- Generated from the answers file beside it by tools/prove/prove.py: edit that.
 -- `block_read::head` meets its contract.
 use borrow.Author.Rules.{rules}
-use borrow.Author.Tests.{eq-eqb, ne_eqb, lt_ltb, le-ltb, lt-leb, le-leb}
+use borrow.Author.Tests.{eq-eqb, ne_eqb, lt-ltb, le-ltb, lt-leb, le-leb}
 use Rattle.block_read.specs.Reading.{head_answer}
 use Rattle.block_read.proofs.head.Statement.{statement}
 use Rattle.block_read.proofs.head.Tie as tie
@@ -12,7 +12,7 @@ returns c = rw (le-leb c.before.args.kind c.before.args.last c.if1.true)
 
 returns-2 : tie.Need-returns-2
 unfolding head_answer
-returns-2 c = rw (lt-leb _ _ c.before.if1.false, lt_ltb _ _ c.if2.true)
+returns-2 c = rw (lt-leb _ _ c.before.if1.false, lt-ltb _ _ c.if2.true)
 
 size-requires : tie.Need-size-requires
 size-requires c κs = search rules

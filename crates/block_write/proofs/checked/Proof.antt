@@ -3,7 +3,7 @@
 use mathlib.Core.Path.{◌∙◌, sym}
 use native.Mathlib.Omega.{arith}
 use borrow.Author.Rules.{rules}
-use borrow.Author.Tests.{eq-eqb, ne_eqb, lt_ltb, le-ltb}
+use borrow.Author.Tests.{eq-eqb, ne_eqb, lt-ltb, le-ltb}
 use Rattle.block_write.specs.Writing.{checked, given, heads_answer}
 use Rattle.block_read.specs.CheckLaws.{dimensions_good, or_zero}
 use Rattle.block_write.proofs.checked.Statement.{statement}
@@ -18,7 +18,7 @@ returns c = rw (← c.before.dimensions.ensures, ne_eqb _ _ c.if1.true)
 
 returns-2 : tie.Need-returns-2
 unfolding checked given heads_answer
-returns-2 c = rw (← c.before.before.dimensions.ensures, eq-eqb _ _ c.before.if1.false, lt_ltb _ _ c.if2.true)
+returns-2 c = rw (← c.before.before.dimensions.ensures, eq-eqb _ _ c.before.if1.false, lt-ltb _ _ c.if2.true)
 
 head-requires : tie.Need-head-requires
 head-requires c κs = omega (arith, dimensions_good c.before.before.before.args.rows c.before.before.before.args.columns c.before.before.before.args.count (sym c.before.before.dimensions.ensures ∙ c.before.if1.false))
@@ -29,7 +29,7 @@ returns-3 c = rw (← c.before.before.before.before.dimensions.ensures, eq-eqb _
 
 returns-4 : tie.Need-returns-4
 unfolding checked given heads_answer
-returns-4 c = rw (← c.before.before.before.before.before.dimensions.ensures, eq-eqb _ _ c.before.before.before.before.if1.false, le-ltb _ _ c.before.before.before.if2.false, ← c.before.before.head.ensures, eq-eqb _ _ c.before.if3.false, lt_ltb _ _ c.if4.true)
+returns-4 c = rw (← c.before.before.before.before.before.dimensions.ensures, eq-eqb _ _ c.before.before.before.before.if1.false, le-ltb _ _ c.before.before.before.if2.false, ← c.before.before.head.ensures, eq-eqb _ _ c.before.if3.false, lt-ltb _ _ c.if4.true)
 
 head-requires-2 : tie.Need-head-requires-2
 head-requires-2 c κs = omega (arith, dimensions_good c.before.before.before.before.before.before.args.rows c.before.before.before.before.before.before.args.columns c.before.before.before.before.before.before.args.count (sym c.before.before.before.before.before.dimensions.ensures ∙ c.before.before.before.before.if1.false))
@@ -40,7 +40,7 @@ returns-5 c = rw (← c.before.before.before.before.before.before.before.dimensi
 
 returns-6 : tie.Need-returns-6
 unfolding checked given heads_answer
-returns-6 c = rw (← c.before.before.before.before.before.before.before.before.dimensions.ensures, eq-eqb _ _ c.before.before.before.before.before.before.before.if1.false, le-ltb _ _ c.before.before.before.before.before.before.if2.false, ← c.before.before.before.before.before.head.ensures, eq-eqb _ _ c.before.before.before.before.if3.false, le-ltb _ _ c.before.before.before.if4.false, ← c.before.before.head2.ensures, eq-eqb _ _ c.before.if5.false, lt_ltb _ _ c.if6.true)
+returns-6 c = rw (← c.before.before.before.before.before.before.before.before.dimensions.ensures, eq-eqb _ _ c.before.before.before.before.before.before.before.if1.false, le-ltb _ _ c.before.before.before.before.before.before.if2.false, ← c.before.before.before.before.before.head.ensures, eq-eqb _ _ c.before.before.before.before.if3.false, le-ltb _ _ c.before.before.before.if4.false, ← c.before.before.head2.ensures, eq-eqb _ _ c.before.if5.false, lt-ltb _ _ c.if6.true)
 
 head-requires-3 : tie.Need-head-requires-3
 head-requires-3 c κs = omega (arith, dimensions_good c.before.before.before.before.before.before.before.before.before.args.rows c.before.before.before.before.before.before.before.before.before.args.columns c.before.before.before.before.before.before.before.before.before.args.count (sym c.before.before.before.before.before.before.before.before.dimensions.ensures ∙ c.before.before.before.before.before.before.before.if1.false))

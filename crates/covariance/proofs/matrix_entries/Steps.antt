@@ -6,7 +6,7 @@ use mathlib.Core.Logic.{⊎_elim}
 use Prim.Native.Nat.{ℕ, zero, suc, ◌+◌, ◌*◌, ◌/◌, ◌%◌, ◌≤◌, ◌<◌}
 use native.Mathlib.Nat.{div-lt_iff_lt-mul, mod-lt, div-add-mod', eq-or-lt_of_le}
 use native.Mathlib.Omega.{arith}
-use borrow.Author.Tests.{lt_ltb, le-ltb}
+use borrow.Author.Tests.{lt-ltb, le-ltb}
 use lib.IntN.{ℤ}
 use lib.Ieee.{Float, nan, binary64, of_int}
 use lib.ListN.{length, take}
@@ -101,7 +101,7 @@ module _ (n N : ℕ) (samples : List ℤ) where
       go false f = absurd (z (rw (e, f)))
       go true f =
           let k-is : k ≡ first_over n N samples = first_here (is_over n N samples) k (n * n) l f s.rest in
-          e ∙ rw (f, div-add-mod' k n, ← k-is, lt_ltb k (n * n) l, h)
+          e ∙ rw (f, div-add-mod' k n, ← k-is, lt-ltb k (n * n) l, h)
 
   pub ends : (k : ℕ) (m m₀ : Vec) → k ≤ n * n → n * n ≤ k → length m ≡ n * n → SoFar n N samples k m → (done 0, m) ≡ computed n N samples m₀
   unfolding computed matrix_of

@@ -4,7 +4,7 @@ use mathlib.Core.Path.{◌≡◌, ◌∙◌, sym, ap}
 use Prim.Native.Nat.{ℕ, ◌≤◌}
 use native.Mathlib.Omega.{arith}
 use borrow.Author.Rules.{rules}
-use borrow.Author.Tests.{lt_ltb, le-ltb, eq-eqb, ne_eqb, leb-true, not-false}
+use borrow.Author.Tests.{lt-ltb, le-ltb, eq-eqb, ne_eqb, leb-true, not-false}
 use mathlib.Core.Bool.{Bool, true, false, ◌&&◌, true≢false}
 use lib.Dec.{leb}
 use Rattle.answers.specs.AnswersLaws.{product_le}
@@ -29,7 +29,7 @@ refused-requires c κs = search rules
 
 returns : tie.Need-returns
 unfolding eigen
-returns c = rw (lt_ltb _ _ c.before.if1.true, c.refused.ensures)
+returns c = rw (lt-ltb _ _ c.before.if1.true, c.refused.ensures)
 
 limit-good-requires : tie.Need-limit-good-requires
 limit-good-requires c κs = search rules

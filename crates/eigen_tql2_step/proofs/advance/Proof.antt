@@ -3,7 +3,7 @@
 use mathlib.Core.Path.{◌∙◌}
 use native.Mathlib.Omega.{arith}
 use borrow.Author.Rules.{rules}
-use borrow.Author.Tests.{lt_ltb, le-ltb}
+use borrow.Author.Tests.{lt-ltb, le-ltb}
 use Rattle.eigen_tql2.specs.LStartEndBounds.{one_pass}
 use Rattle.eigen_tql2_step.specs.Advance.{step}
 use Rattle.eigen_tql2_step.specs.SkipSettledLaws.{found_ready, room}
@@ -30,7 +30,7 @@ same-length-3 c = omega arith
 
 returns : tie.Need-returns
 unfolding step
-returns c = rw (← c.before.before.before.before.before.before.before.before.before.before.before.before.before.before.before.before.before.before.before.before.before.before.before.find.ensures c.before.before.before.before.before.before.before.before.before.before.before.before.before.before.before.before.before.before.before.before.before.before.before.before.before.before.before.before.before.args.v.now, lt_ltb _ _ c.before.before.before.before.before.before.before.before.before.before.before.before.before.before.before.before.before.if1.true, ← c.before.before.before.before.before.before.before.before.before.before.before.before.before.pass.ensures) (c.before.before.before.before.decide.ensures _)
+returns c = rw (← c.before.before.before.before.before.before.before.before.before.before.before.before.before.before.before.before.before.before.before.before.before.before.before.find.ensures c.before.before.before.before.before.before.before.before.before.before.before.before.before.before.before.before.before.before.before.before.before.before.before.before.before.before.before.before.before.args.v.now, lt-ltb _ _ c.before.before.before.before.before.before.before.before.before.before.before.before.before.before.before.before.before.if1.true, ← c.before.before.before.before.before.before.before.before.before.before.before.before.before.pass.ensures) (c.before.before.before.before.decide.ensures _)
 
 same-length-4 : tie.Need-same-length-4
 same-length-4 c = omega arith

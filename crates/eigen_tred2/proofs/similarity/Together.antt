@@ -6,7 +6,7 @@ use native.Mathlib.Nat.{le_antisymm}
 use native.Mathlib.Omega.{arith}
 use lib.Ieee.{Float, nan}
 use lib.ListN.{length, set, length-set}
-use lib.Seq.{get_or-set_same, get_or_set_other, set-set, set_comm}
+use lib.Seq.{get_or-set_same, get_or-set_other, set-set, set_comm}
 use Rattle.grid.specs.Loop.{upto}
 use Rattle.grid.specs.LoopLaws.{upto_more, upto_both, upto_keeps, upto_same, start, more}
 use Rattle.grid.specs.Real.{Vec, at, ◌⊕◌, ◌⊗◌}
@@ -43,12 +43,12 @@ module _ (n j : ℕ) (f : Float) (v d : Vec) where
     where
       turn : (m : ℕ) (g : Float) (e : Vec) → m ≢ k
           → similar_step n j f v d m (g, set e k x) ≡ ((similar_step n j f v d m (g, e)).0, set (similar_step n j f v d m (g, e)).1 k x)
-      turn m g e p = rw (get_or_set_other e k m x nan p, set_comm e k m x (at e m ⊕ at2 v n m j ⊗ f) (λ q. p (sym q)))
+      turn m g e p = rw (get_or-set_other e k m x nan p, set_comm e k m x (at e m ⊕ at2 v n m j ⊗ f) (λ q. p (sym q)))
 
   -- and what stands there stays
   unmoved : (a b k : ℕ) (g : Float) (e : Vec) → Apart a b k → at (walk a b g e).1 k ≡ at e k
   unmoved a b k g e h = upto_keeps (λ s t. at s.1 k ≡ at e k) (similar_step n j f v d) (similar_step n j f v d) a b (g, e) (g, e)
-      (λ m s t p q r. get_or_set_other s.1 m k _ nan (λ z. h m p q (sym z)) ∙ r) refl
+      (λ m s t p q r. get_or-set_other s.1 m k _ nan (λ z. h m p q (sym z)) ∙ r) refl
 
   long : (a b : ℕ) (g : Float) (e : Vec) → length (walk a b g e).1 ≡ length e
   long a b g e = upto_long (λ (s : Float × Vec). s.1) (similar_step n j f v d) a b (g, e) (λ k s. simp length-set)
@@ -143,7 +143,7 @@ module _ (n i j : ℕ) (d v e : Vec) (h : j + 1 < i) (l : i < n) (q : length e �
 
   at_share : at e₁ (j + 1) ≡ share
   at_share =
-      get_or_set_other (set s.1 (j + 1) share) j (j + 1) s.0 nan (λ z. omega arith)
+      get_or-set_other (set s.1 (j + 1) share) j (j + 1) s.0 nan (λ z. omega arith)
       ∙ get_or-set_same s.1 (j + 1) share nan (omega (arith, long n j f.a v₂ d (j + 2) i (sums n j f v₂ e).a e))
 
   column_j_plus_1 : similar_column n i (j + 1) f.b v₂ d ((sums n j f v₂ e).b, e₁) ≡ (t.0, set (set t.1 (j + 1) share) j s.0)

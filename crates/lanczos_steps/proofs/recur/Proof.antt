@@ -1,6 +1,6 @@
 -- Generated from the answers file beside it by tools/prove/prove.py: edit that.
 -- `lanczos_steps::recur` meets its contract.
-use Rattle.std.proofs.Common.{◌+◌, ◌-◌, ◌*◌, arith, rules, le-ltb, lt_ltb}
+use Rattle.std.proofs.Common.{◌+◌, ◌-◌, ◌*◌, arith, rules, le-ltb, lt-ltb}
 use Rattle.lanczos_steps.specs.Krylov.{recurred}
 use Rattle.grid.specs.TableLaws.{row_end, length_part}
 use Rattle.lanczos_steps.proofs.recur.Statement.{statement}
@@ -44,7 +44,7 @@ same_length c = omega arith
 
 returns : tie.Need-returns
 unfolding recurred
-returns c = rw (lt_ltb 0 _ c.before.before.before.before.before.before.if1.true, ← c.before.before.before.before.before.before.before.before.before.add.ensures) c.before.before.add2.ensures
+returns c = rw (lt-ltb 0 _ c.before.before.before.before.before.before.if1.true, ← c.before.before.before.before.before.before.before.before.before.add.ensures) c.before.before.add2.ensures
 
 same-length-2 : tie.Need-same-length-2
 same-length-2 c = omega arith

@@ -2,7 +2,7 @@
 -- `lanczos_steps::step` meets its contract.
 use Rattle.std.proofs.Common.{◌∙◌, arith, rules}
 use Rattle.lanczos_steps.specs.Krylov.{step}
-use borrow.Author.Tests.{not_true, not-false}
+use borrow.Author.Tests.{not-true, not-false}
 use Rattle.lanczos_steps.proofs.step.Statement.{statement}
 use Rattle.lanczos_steps.proofs.step.Tie as tie
 
@@ -32,7 +32,7 @@ same-length-2 c = omega arith
 
 returns : tie.Need-returns
 unfolding step
-returns c = rw (← c.before.before.before.before.before.before.before.before.before.product.ensures, ← c.before.before.before.before.dot.ensures, ← c.before.before.before.is_finite.ensures, not_true c.before.before.before.is_finite.result c.before.before.if1.true, ← c.before.class_of.ensures, ← c.answered.ensures)
+returns c = rw (← c.before.before.before.before.before.before.before.before.before.product.ensures, ← c.before.before.before.before.dot.ensures, ← c.before.before.before.is_finite.ensures, not-true c.before.before.before.is_finite.result c.before.before.if1.true, ← c.before.class_of.ensures, ← c.answered.ensures)
 
 recur-requires : tie.Need-recur-requires
 recur-requires c κs = search rules

@@ -1,12 +1,12 @@
 -- Generated from the answers file beside it by tools/prove/prove.py: edit that.
 -- `lanczos_steps::step_if_on` meets its contract.
 use Rattle.std.proofs.Common.{arith}
-use borrow.Author.Tests.{not_true, not-false}
+use borrow.Author.Tests.{not-true, not-false}
 use Rattle.lanczos_steps.proofs.step_if_on.Statement.{statement}
 use Rattle.lanczos_steps.proofs.step_if_on.Tie as tie
 
 returns : tie.Need-returns
-returns c = rw (not_true c.before.before.before.before.before.before.args.r.on c.if1.true)
+returns c = rw (not-true c.before.before.before.before.before.before.args.r.on c.if1.true)
 
 step-requires : tie.Need-step-requires
 step-requires c κs = c.before.before.before.before.before.before.before.before.before.before.before.requires

@@ -5,7 +5,7 @@ use Prim.Native.Nat.{ℕ, zero, suc, ◌+◌, ◌*◌, ◌/◌, ◌%◌, ◌<◌
 use native.Mathlib.Nat.{mod-lt, mod-zero, div-zero, zero-mod, zero-div, mod-le, div-le_self, div-lt_iff_lt-mul, mul_comm, div-add-mod', mul-add-div_right, mul-add-mod_self_right, div-eq_of_lt, mod-eq_of_lt, add-mul, add-zero}
 use native.Mathlib.Omega.{arith}
 use lib.Dec.{eqb}
-use borrow.Author.Tests.{lt_ltb, le-ltb, eqb-true, eqb-false, ne_eqb}
+use borrow.Author.Tests.{lt-ltb, le-ltb, eqb-true, eqb-false, ne_eqb}
 use Rattle.grid.specs.Loop.{first}
 use Rattle.grid.specs.LoopLaws.{first_here, first_next, first_none}
 use Rattle.grid.specs.Real.{Vec}
@@ -26,7 +26,7 @@ left_more x k n h e g = first_next (λ j. not (is_finite (x j))) k n h e g
 
 pub found_here : (x : ℕ → Float) (k n : ℕ) {c : ℕ} → k < n → not (is_finite (x k)) ≡ true → c ≡ class_of (x k) → Left x k n → At k c ≡ scan x n
 unfolding scan
-found_here x k n h e s g = rw (← first_here (λ j. not (is_finite (x j))) k n h e g, lt_ltb k n h, s)
+found_here x k n h e s g = rw (← first_here (λ j. not (is_finite (x j))) k n h e g, lt-ltb k n h, s)
 
 pub found_none : (x : ℕ → Float) (k n : ℕ) → n ≤ k → Left x k n → Nowhere ≡ scan x n
 unfolding scan

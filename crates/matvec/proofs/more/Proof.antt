@@ -3,7 +3,7 @@
 use native.Mathlib.Omega.{arith}
 use borrow.Author.Rules.{rules}
 use Rattle.matvec.specs.Rows.{more}
-use borrow.Author.Tests.{lt_ltb, le-ltb}
+use borrow.Author.Tests.{lt-ltb, le-ltb}
 use Rattle.matvec.proofs.more.Statement.{statement}
 use Rattle.matvec.proofs.more.Tie as tie
 
@@ -30,7 +30,7 @@ same_length c = omega arith
 
 returns : tie.Need-returns
 unfolding more
-returns c = rw (lt_ltb _ _ c.before.before.before.before.if1.true, ← c.before.before.four.ensures)
+returns c = rw (lt-ltb _ _ c.before.before.before.before.if1.true, ← c.before.before.four.ensures)
 
 one-requires : tie.Need-one-requires
 one-requires c κs = search rules

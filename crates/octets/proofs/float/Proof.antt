@@ -2,7 +2,7 @@
 -- `octets::float` meets its contract.
 use mathlib.Core.Path.{◌≡◌, ◌∙◌, refl, sym, subst}
 use mathlib.Core.Bool.{Bool, not}
-use borrow.Author.Tests.{lt_ltb, le-ltb}
+use borrow.Author.Tests.{lt-ltb, le-ltb}
 use lib.Dec.{T}
 use lib.Ieee.{nan, binary64, div, of_bits}
 use lib.Ieee.Bits.{nan_bits_above}
@@ -24,7 +24,7 @@ returns c = rw (le-ltb 0x7ff0_0000_0000_0000 (c.before.args.b % 2 ^ 63) c.if1.tr
 
 returns-2 : tie.Need-returns-2
 unfolding float
-returns-2 c = rw (lt_ltb 0x7ff0_0000_0000_0000 (c.before.args.b % 2 ^ 63) c.if1.false) quotient
+returns-2 c = rw (lt-ltb 0x7ff0_0000_0000_0000 (c.before.args.b % 2 ^ 63) c.if1.false) quotient
 
 pub float-spec : {M : Type 1} → statement M
 float-spec = tie.close (tie.spec float-from-bits-result returns returns-2)

@@ -3,7 +3,7 @@
 use mathlib.Core.Path.{◌∙◌}
 use native.Mathlib.Omega.{arith}
 use borrow.Author.Rules.{rules}
-use borrow.Author.Tests.{lt_ltb, le-ltb}
+use borrow.Author.Tests.{lt-ltb, le-ltb}
 use Rattle.answers.specs.AnswersLaws.{product_le}
 use Rattle.qr_q.specs.QrQ.{checks}
 use Rattle.qr_q.proofs.checks.Statement.{statement}
@@ -14,14 +14,14 @@ refused-requires c κs = search rules
 
 returns : tie.Need-returns
 unfolding checks
-returns c = c.refused.ensures ∙ rw (lt_ltb 256 _ c.before.if1.true)
+returns c = c.refused.ensures ∙ rw (lt-ltb 256 _ c.before.if1.true)
 
 refused-requires-2 : tie.Need-refused-requires-2
 refused-requires-2 c κs = search rules
 
 returns-2 : tie.Need-returns-2
 unfolding checks
-returns-2 c = c.refused2.ensures ∙ rw (le-ltb 256 _ c.before.before.if1.false, lt_ltb 256 _ c.before.if2.true)
+returns-2 c = c.refused2.ensures ∙ rw (le-ltb 256 _ c.before.before.if1.false, lt-ltb 256 _ c.before.if2.true)
 
 mul-lengths : tie.Need-overflow-mul-lengths
 mul-lengths c = omega (arith, product_le c.before.before.args.m c.before.before.args.k c.before.if1.false c.if2.false)

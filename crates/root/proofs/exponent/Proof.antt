@@ -1,5 +1,5 @@
 -- `root::exponent` meets its contract.
-use Rattle.std.proofs.Common.{◌+◌, ◌-◌, ◌/◌, ◌^◌, Bool, cond, sym, ap, rules, le-ltb, lt_ltb}
+use Rattle.std.proofs.Common.{◌+◌, ◌-◌, ◌/◌, ◌^◌, Bool, cond, sym, ap, rules, le-ltb, lt-ltb}
 use lib.Count.{count_leading_zeros, leading_le}
 use Rattle.root.proofs.exponent.Statement.{statement}
 use Rattle.root.proofs.exponent.Tie as tie
@@ -13,7 +13,7 @@ cast-result c = search rules
 returns : tie.Need-returns
 returns c =
     let b = c.before.args.b in
-    sym (ap (λ (t : Bool). cond t (64 - count_leading_zeros 64 b) (b / 2 ^ 52 + 52)) (lt_ltb b (2 ^ 52) c.if1.true))
+    sym (ap (λ (t : Bool). cond t (64 - count_leading_zeros 64 b) (b / 2 ^ 52 + 52)) (lt-ltb b (2 ^ 52) c.if1.true))
 
 add-result : tie.Need-overflow-add-result
 add-result c = search rules

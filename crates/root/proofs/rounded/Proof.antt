@@ -1,6 +1,6 @@
 -- Generated from the answers file beside it by tools/prove/prove.py: edit that.
 -- `root::rounded` meets its contract.
-use Rattle.std.proofs.Common.{arith, le-ltb, lt_ltb}
+use Rattle.std.proofs.Common.{arith, le-ltb, lt-ltb}
 use Rattle.root.proofs.rounded.Statement.{statement}
 use Rattle.root.proofs.rounded.Tie as tie
 
@@ -8,7 +8,7 @@ add-result : tie.Need-overflow-add-result
 add-result c = omega arith
 
 returns : tie.Need-returns
-returns c = rw (lt_ltb _ _ c.before.if1.true)
+returns c = rw (lt-ltb _ _ c.before.if1.true)
 
 returns-2 : tie.Need-returns-2
 returns-2 c = rw (le-ltb _ _ c.if1.false)

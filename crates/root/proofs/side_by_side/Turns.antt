@@ -1,5 +1,5 @@
 -- A lane's turns are those on paper.
-use Rattle.std.proofs.Common.{◌≡◌, ℕ, ◌+◌, ◌-◌, ◌*◌, ◌/◌, ◌%◌, ◌^◌, ◌<◌, ◌≤◌, Bool, true, false, cond, not, T, ltb, refl, ap, ◌∙◌, arith, ltb→lt, nltb→le, pow_mono, le-ltb, lt_ltb}
+use Rattle.std.proofs.Common.{◌≡◌, ℕ, ◌+◌, ◌-◌, ◌*◌, ◌/◌, ◌%◌, ◌^◌, ◌<◌, ◌≤◌, Bool, true, false, cond, not, T, ltb, refl, ap, ◌∙◌, arith, ltb→lt, nltb→le, pow_mono, le-ltb, lt-ltb}
 use Rattle.root.specs.School.{turn, digits}
 use Rattle.root.specs.declared.Found.{Found}
 use Rattle.root.specs.declared.side_by_side.Lane.{Lane}
@@ -14,7 +14,7 @@ module _ (d u y : ℕ) (hd : d < 2 ^ 60) (hu : u < 2 ^ 60) (hy : y < 2 ^ 64) (e 
     where
       go : (z : Bool) → (T z → d < u) → (T (not z) → u ≤ d) → ltb y (2 ^ 63) ≡ not z
       go true less more = le-ltb y (2 ^ 63) (omega (arith, less tt))
-      go false less more = lt_ltb y (2 ^ 63) (omega (arith, more tt))
+      go false less more = lt-ltb y (2 ^ 63) (omega (arith, more tt))
 
   -- what the digit asks for
   pub by_digit : (r one nought : ℕ) → r ≡ cond (ltb y (2 ^ 63)) one nought → r ≡ cond (ltb d u) nought one

@@ -1,5 +1,5 @@
 -- `root::significand` meets its contract.
-use Rattle.std.proofs.Common.{◌+◌, ◌-◌, ◌*◌, ◌%◌, ◌^◌, Bool, cond, sym, ap, ◌∙◌, mod-eq_of_lt, arith, rules, le-ltb, lt_ltb}
+use Rattle.std.proofs.Common.{◌+◌, ◌-◌, ◌*◌, ◌%◌, ◌^◌, Bool, cond, sym, ap, ◌∙◌, mod-eq_of_lt, arith, rules, le-ltb, lt-ltb}
 use lib.Count.{count_leading_zeros, leading_le}
 use Rattle.root.proofs.Fields.{low_zeros, split_low}
 use Rattle.root.proofs.significand.Statement.{statement}
@@ -20,7 +20,7 @@ returns : tie.Need-returns
 returns c =
     let b = c.before.args.b in
     mod-eq_of_lt (omega (arith, (split_low b c.before.requires c.if1.true).most))
-    ∙ sym (ap (λ (t : Bool). cond t (b * 2 ^ (count_leading_zeros 64 b - 11)) (2 ^ 52 + b % 2 ^ 52)) (lt_ltb b (2 ^ 52) c.if1.true))
+    ∙ sym (ap (λ (t : Bool). cond t (b * 2 ^ (count_leading_zeros 64 b - 11)) (2 ^ 52 + b % 2 ^ 52)) (lt-ltb b (2 ^ 52) c.if1.true))
 
 add-result : tie.Need-overflow-add-result
 add-result c = search rules

@@ -2,7 +2,7 @@
 -- `solve::parts` meets its contract.
 use mathlib.Core.Path.{◌∙◌}
 use borrow.Author.Rules.{rules}
-use borrow.Author.Tests.{lt_ltb, le-ltb, eq-eqb, ne_eqb}
+use borrow.Author.Tests.{lt-ltb, le-ltb, eq-eqb, ne_eqb}
 use Rattle.solve.proofs.parts.Statement.{statement}
 use Rattle.solve.proofs.parts.Tie as tie
 
@@ -10,13 +10,13 @@ refused-requires : tie.Need-refused-requires
 refused-requires c κs = search rules
 
 returns : tie.Need-returns
-returns c = c.refused.ensures ∙ rw (lt_ltb 256 _ c.before.if1.true)
+returns c = c.refused.ensures ∙ rw (lt-ltb 256 _ c.before.if1.true)
 
 refused-requires-2 : tie.Need-refused-requires-2
 refused-requires-2 c κs = search rules
 
 returns-2 : tie.Need-returns-2
-returns-2 c = c.refused2.ensures ∙ rw (le-ltb 256 _ c.before.before.if1.false, lt_ltb 256 _ c.before.if2.true)
+returns-2 c = c.refused2.ensures ∙ rw (le-ltb 256 _ c.before.before.if1.false, lt-ltb 256 _ c.before.if2.true)
 
 refused-requires-3 : tie.Need-refused-requires-3
 refused-requires-3 c κs = search rules

@@ -4,7 +4,7 @@ use mathlib.Core.Bool.{Bool, false, not}
 use mathlib.Core.List.{List}
 use Prim.Native.Nat.{ℕ, ◌+◌, ◌-◌, ◌≤◌, ◌<◌}
 use native.Mathlib.Omega.{arith}
-use borrow.Author.Tests.{not-false, le-ltb, lt_ltb, lt-leb}
+use borrow.Author.Tests.{not-false, le-ltb, lt-ltb, lt-leb}
 use lib.ListN.{length, take}
 use Rattle.store_definition.specs.Store.{Outcome, place, room_of, held_of, start_of, sound, kept, added, put_of}
 use Rattle.store_definition.specs.SoundLaws.{Facts, facts, sounds}
@@ -62,5 +62,5 @@ module _ (entries : ℕ) (list tiles bytes : List ℕ) (b : Bool) (e : b ≡ sou
           ← p,
           le-ltb k (held_of list) l,
           lt-leb entries (held_of list) h,
-          lt_ltb (room_of list) (start_of list (held_of list) + length block) (omega (arith, f.whole)),
+          lt-ltb (room_of list) (start_of list (held_of list) + length block) (omega (arith, f.whole)),
         )

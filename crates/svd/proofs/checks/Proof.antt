@@ -2,7 +2,7 @@
 -- `svd::checks` meets its contract.
 use native.Mathlib.Omega.{arith}
 use borrow.Author.Rules.{rules}
-use borrow.Author.Tests.{lt_ltb, le-ltb}
+use borrow.Author.Tests.{lt-ltb, le-ltb}
 use Rattle.answers.specs.AnswersLaws.{product_le}
 use Rattle.svd.specs.Svd.{checks}
 use Rattle.svd.proofs.checks.Statement.{statement}
@@ -13,14 +13,14 @@ refused-requires c κs = search rules
 
 returns : tie.Need-returns
 unfolding checks
-returns c = rw (lt_ltb 256 c.before.before.args.m c.before.if1.true) c.refused.ensures
+returns c = rw (lt-ltb 256 c.before.before.args.m c.before.if1.true) c.refused.ensures
 
 refused-requires-2 : tie.Need-refused-requires-2
 refused-requires-2 c κs = search rules
 
 returns-2 : tie.Need-returns-2
 unfolding checks
-returns-2 c = rw (le-ltb 256 c.before.before.before.args.m c.before.before.if1.false, lt_ltb 256 c.before.before.before.args.n c.before.if2.true) c.refused2.ensures
+returns-2 c = rw (le-ltb 256 c.before.before.before.args.m c.before.before.if1.false, lt-ltb 256 c.before.before.before.args.n c.before.if2.true) c.refused2.ensures
 
 limit-good-requires : tie.Need-limit-good-requires
 limit-good-requires c κs = search rules

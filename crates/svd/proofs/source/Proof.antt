@@ -1,7 +1,7 @@
 -- Generated from the answers file beside it by tools/prove/prove.py: edit that.
 -- `svd::source` meets its contract.
 use native.Mathlib.Omega.{arith}
-use borrow.Author.Tests.{lt_ltb, le-ltb}
+use borrow.Author.Tests.{lt-ltb, le-ltb}
 use Rattle.svd.specs.Svd.{source}
 use Rattle.svd_sort_svd_descending.specs.ResultSizes.{wide_longest, wide_least, tall_longest, tall_least}
 use Rattle.svd.proofs.source.Statement.{statement}
@@ -12,7 +12,7 @@ entry-requires c κs = omega (arith, wide_longest _ _ c.if1.true, wide_least _ _
 
 returns : tie.Need-returns
 unfolding source
-returns c = rw (lt_ltb _ _ c.before.if1.true) c.entry.ensures
+returns c = rw (lt-ltb _ _ c.before.if1.true) c.entry.ensures
 
 entry-requires-2 : tie.Need-entry-requires-2
 entry-requires-2 c κs = omega (arith, tall_longest _ _ c.if1.false, tall_least _ _ c.if1.false)

@@ -1,7 +1,7 @@
 -- Where a test passes the skip test is settled. Laws only.
 use mathlib.Core.Path.{◌≡◌, refl, sym, ◌∙◌}
 use mathlib.Core.Bool.{Bool, true, false, ◌&&◌, true≢false}
-use Prim.Native.Nat.{zero_le, ◌*◌}
+use Prim.Native.Nat.{zero-le, ◌*◌}
 use native.Mathlib.Nat.{lt_of_le_of_lt}
 use borrow.Author.Tests.{ltb-true}
 use lib.Dec.{T, lt→ltb}
@@ -20,7 +20,7 @@ unfolding lt is_finite of_bits
 above_zero nan e f = absurd (true≢false (sym f))
 above_zero (inf s) e f = absurd (true≢false (sym f))
 above_zero (fin true m d) e f = absurd (true≢false (sym e))
-above_zero (fin false m d) e f = lt→ltb 0 m (first_pos m (up d) (first_pos (m * up d) 1 (lt_of_le_of_lt zero_le (ltb-true _ _ e))))
+above_zero (fin false m d) e f = lt→ltb 0 m (first_pos m (up d) (first_pos (m * up d) 1 (lt_of_le_of_lt zero-le (ltb-true _ _ e))))
 
 both_positive : (u p : Float) → both u p ≡ true → T (positive u) × T (positive p)
 unfolding both

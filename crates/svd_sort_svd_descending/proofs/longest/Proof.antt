@@ -1,13 +1,13 @@
 -- Generated from the answers file beside it by tools/prove/prove.py: edit that.
 -- `svd_sort_svd_descending::longest` meets its contract.
-use borrow.Author.Tests.{lt_ltb, le-ltb}
+use borrow.Author.Tests.{lt-ltb, le-ltb}
 use Rattle.svd_sort_svd_descending.specs.Result.{longest}
 use Rattle.svd_sort_svd_descending.proofs.longest.Statement.{statement}
 use Rattle.svd_sort_svd_descending.proofs.longest.Tie as tie
 
 returns : tie.Need-returns
 unfolding longest
-returns c = rw (lt_ltb _ _ c.if1.true)
+returns c = rw (lt-ltb _ _ c.if1.true)
 
 returns-2 : tie.Need-returns-2
 unfolding longest

@@ -1,12 +1,12 @@
 -- Generated from the answers file beside it by tools/prove/prove.py: edit that.
 -- `text::read_limit` meets its contract.
 use borrow.Author.Rules.{rules}
-use borrow.Author.Tests.{lt_ltb, le-ltb}
+use borrow.Author.Tests.{lt-ltb, le-ltb}
 use Rattle.text.proofs.read_limit.Statement.{statement}
 use Rattle.text.proofs.read_limit.Tie as tie
 
 returns : tie.Need-returns
-returns c = rw (lt_ltb _ _ c.if1.true)
+returns c = rw (lt-ltb _ _ c.if1.true)
 
 read-number-requires : tie.Need-read-number-requires
 read-number-requires c κs = search rules

@@ -3,7 +3,7 @@
 use mathlib.Core.Path.{◌∙◌, sym, ap}
 use native.Mathlib.Omega.{arith}
 use borrow.Author.Rules.{rules}
-use borrow.Author.Tests.{lt_ltb, le-ltb, eq-eqb, ne_eqb}
+use borrow.Author.Tests.{lt-ltb, le-ltb, eq-eqb, ne_eqb}
 use Rattle.answers.specs.AnswersLaws.{product_le}
 use Rattle.answers.specs.declared.Answer.{Answer}
 use Rattle.answers.specs.EditionLaws.{fitting_edition_right}
@@ -19,7 +19,7 @@ new-run-requires c κs = search rules
 
 returns : tie.Need-returns
 unfolding started
-returns c = rw (lt_ltb _ _ c.before.before.if1.true, c.new-run.ensures, c.before.refused.ensures)
+returns c = rw (lt-ltb _ _ c.before.before.if1.true, c.new-run.ensures, c.before.refused.ensures)
 
 limit-good-requires : tie.Need-limit-good-requires
 limit-good-requires c κs = search rules

@@ -2,7 +2,7 @@
 -- `eigen_steps::finish::finish` meets its contract.
 use native.Mathlib.Omega.{arith}
 use borrow.Author.Rules.{rules}
-use borrow.Author.Tests.{lt_ltb, le-ltb, eq-eqb, ne_eqb}
+use borrow.Author.Tests.{lt-ltb, le-ltb, eq-eqb, ne_eqb}
 use Rattle.eigen_steps.specs.FinishLaws.{finished_as}
 use Rattle.eigen_steps.specs.PastChecks.{checked_past}
 use Rattle.eigen_steps.proofs.finish.finish.Statement.{statement}
@@ -36,7 +36,7 @@ same-length-4 c = omega arith
 
 returns-3 : tie.Need-returns-3
 unfolding finished_as
-returns-3 c = rw (eq-eqb _ _ c.before.before.before.before.before.before.before.before.if1.false, ← c.before.before.before.before.before.checked.ensures, eq-eqb _ _ c.before.before.before.if2.false, lt_ltb c.before.before.before.before.before.before.before.before.before.before.before.before.args.s.run.l c.before.before.before.before.before.before.before.before.before.before.before.before.args.n c.before.if3.true, c.refused.ensures)
+returns-3 c = rw (eq-eqb _ _ c.before.before.before.before.before.before.before.before.if1.false, ← c.before.before.before.before.before.checked.ensures, eq-eqb _ _ c.before.before.before.if2.false, lt-ltb c.before.before.before.before.before.before.before.before.before.before.before.before.args.s.run.l c.before.before.before.before.before.before.before.before.before.before.before.before.args.n c.before.if3.true, c.refused.ensures)
 
 close-up-requires : tie.Need-close-up-requires
 close-up-requires c κs = let k = checked_past _ _ _ _ _ _ _ c.before.before.before.before.before.before.checked.ensures c.before.before.before.before.if2.false in (k.past.some, k.past.small, k.works, k.room)

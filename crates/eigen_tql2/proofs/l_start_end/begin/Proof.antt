@@ -1,7 +1,7 @@
 -- Generated from the answers file beside it by tools/prove/prove.py: edit that.
 -- `eigen_tql2::l_start_end::begin` meets its contract.
 use borrow.Author.Rules.{rules}
-use borrow.Author.Tests.{lt_ltb, le-ltb}
+use borrow.Author.Tests.{lt-ltb, le-ltb}
 use Rattle.eigen_tql2.specs.LStartEnd.{opened}
 use Rattle.eigen_tql2.proofs.l_start_end.begin.Statement.{statement}
 use Rattle.eigen_tql2.proofs.l_start_end.begin.Tie as tie
@@ -26,7 +26,7 @@ split-requires c κs = search rules
 
 returns : tie.Need-returns
 unfolding opened
-returns c = rw (← c.before.before.before.before.before.before.at1.ensures, ← c.before.before.before.before.before.magnitude.ensures, ← c.before.before.before.before.at12.ensures, ← c.before.before.before.magnitude2.ensures, ← c.before.before.larger.ensures, ← c.before.split.ensures, lt_ltb _ _ c.if1.true)
+returns c = rw (← c.before.before.before.before.before.before.at1.ensures, ← c.before.before.before.before.before.magnitude.ensures, ← c.before.before.before.before.at12.ensures, ← c.before.before.before.magnitude2.ensures, ← c.before.before.larger.ensures, ← c.before.split.ensures, lt-ltb _ _ c.if1.true)
 
 returns-2 : tie.Need-returns-2
 unfolding opened

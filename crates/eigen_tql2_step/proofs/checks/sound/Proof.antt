@@ -4,7 +4,7 @@ use mathlib.Core.Path.{◌∙◌, ap}
 use Prim.Native.Nat.{◌-◌}
 use native.Mathlib.Omega.{arith}
 use borrow.Author.Rules.{rules}
-use borrow.Author.Tests.{not_true, not-false}
+use borrow.Author.Tests.{not-true, not-false}
 use lib.Ieee.{Float, le, eq}
 use mathlib.Core.Bool.{not}
 use Rattle.grid.specs.Real.{at, zero64}
@@ -16,7 +16,7 @@ use Rattle.eigen_tql2_step.proofs.checks.sound.Tie as tie
 
 returns : tie.Need-returns
 unfolding sound
-returns c = rw (not_true (le zero64 c.before.before.before.before.args.r.tst1) c.if1.true)
+returns c = rw (not-true (le zero64 c.before.before.before.before.args.r.tst1) c.if1.true)
 
 sub-at1 : tie.Need-overflow-sub-at1
 sub-at1 c = search rules

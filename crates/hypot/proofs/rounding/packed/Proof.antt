@@ -5,7 +5,7 @@ use Prim.Native.Nat.{ℕ, ◌+◌, ◌*◌, ◌/◌, ◌%◌, ◌^◌, ◌<◌, 
 use native.Mathlib.Omega.{arith}
 use borrow.Author.Rules.{rules}
 use mathlib.Core.Bool.{Bool, true, false, cond}
-use borrow.Author.Tests.{lt_ltb, le-ltb}
+use borrow.Author.Tests.{lt-ltb, le-ltb}
 use lib.Dec.{eqb}
 use Rattle.hypot.specs.RoundingParts.{digit, bits, packed}
 use Rattle.hypot.proofs.rounding.packed.Statement.{statement}
@@ -22,7 +22,7 @@ under : (k s t d : ℕ) → d ≡ digit s t → k * 2 ^ 52 + (s + d) / 2 < 0x7ff
 unfolding packed
 under k s t d e h =
     ap (λ (x : ℕ). k * 2 ^ 52 + (s + x) / 2) e
-    ∙ sym (ap (λ (b : Bool). cond b (bits k s t) 0x7ff0_0000_0000_0000) (lt_ltb (bits k s t) 0x7ff0_0000_0000_0000 (subst (λ (x : ℕ). k * 2 ^ 52 + (s + x) / 2 < 0x7ff0_0000_0000_0000) e h)))
+    ∙ sym (ap (λ (b : Bool). cond b (bits k s t) 0x7ff0_0000_0000_0000) (lt-ltb (bits k s t) 0x7ff0_0000_0000_0000 (subst (λ (x : ℕ). k * 2 ^ 52 + (s + x) / 2 < 0x7ff0_0000_0000_0000) e h)))
 
 over : (k s t d : ℕ) → d ≡ digit s t → 0x7ff0_0000_0000_0000 ≤ k * 2 ^ 52 + (s + d) / 2 → 0x7ff0_0000_0000_0000 ≡ packed k s t
 unfolding packed

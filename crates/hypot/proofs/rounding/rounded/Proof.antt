@@ -5,7 +5,7 @@ use Prim.Native.Nat.{ℕ, ◌+◌, ◌/◌, ◌%◌, ◌^◌}
 use native.Mathlib.Omega.{arith}
 use borrow.Author.Rules.{rules}
 use mathlib.Core.Bool.{Bool, cond}
-use borrow.Author.Tests.{lt_ltb, le-ltb}
+use borrow.Author.Tests.{lt-ltb, le-ltb}
 use Rattle.hypot.specs.RoundingParts.{packed, rounded}
 use lib.Dec.{ltb}
 use Rattle.hypot.proofs.rounding.rounded.Statement.{statement}
@@ -19,7 +19,7 @@ packed-requires : tie.Need-packed-requires
 packed-requires c κs = search rules
 
 returns : tie.Need-returns
-returns c = rounded-is c.before.before.args.k c.before.before.args.s c.before.before.args.t _ _ c.packed.ensures (lt_ltb c.before.before.args.s (2 ^ 54) c.before.if1.true)
+returns c = rounded-is c.before.before.args.k c.before.before.args.s c.before.before.args.t _ _ c.packed.ensures (lt-ltb c.before.before.args.s (2 ^ 54) c.before.if1.true)
 
 add-packed : tie.Need-overflow-add-packed
 add-packed c = omega arith

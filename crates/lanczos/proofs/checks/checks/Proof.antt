@@ -3,7 +3,7 @@
 use mathlib.Core.Path.{◌∙◌}
 use native.Mathlib.Omega.{arith}
 use borrow.Author.Rules.{rules}
-use borrow.Author.Tests.{lt_ltb, le-ltb, eq-eqb, ne_eqb}
+use borrow.Author.Tests.{lt-ltb, le-ltb, eq-eqb, ne_eqb}
 use Rattle.answers.specs.AnswersLaws.{product_le}
 use Rattle.lanczos.specs.Checks.{checks}
 use Rattle.lanczos.proofs.checks.checks.Statement.{statement}
@@ -14,7 +14,7 @@ refused-requires c κs = search rules
 
 returns : tie.Need-returns
 unfolding checks
-returns c = c.refused.ensures ∙ rw (lt_ltb 256 _ c.before.if1.true)
+returns c = c.refused.ensures ∙ rw (lt-ltb 256 _ c.before.if1.true)
 
 limit-good-requires : tie.Need-limit-good-requires
 limit-good-requires c κs = search rules
@@ -48,7 +48,7 @@ refused-requires-5 c κs = search rules
 
 returns-5 : tie.Need-returns-5
 unfolding checks
-returns-5 c = c.refused5.ensures ∙ rw (le-ltb 256 _ c.before.before.before.before.before.before.before.if1.false, ← c.before.before.before.before.before.before.limit-good.ensures, c.before.before.before.before.before.if2.false, ← c.before.before.before.before.edition-good.ensures, c.before.before.before.if3.false, ne_eqb _ 0 c.before.before.if4.false, lt_ltb _ _ c.before.if5.true)
+returns-5 c = c.refused5.ensures ∙ rw (le-ltb 256 _ c.before.before.before.before.before.before.before.if1.false, ← c.before.before.before.before.before.before.limit-good.ensures, c.before.before.before.before.before.if2.false, ← c.before.before.before.before.edition-good.ensures, c.before.before.before.if3.false, ne_eqb _ 0 c.before.before.if4.false, lt-ltb _ _ c.before.if5.true)
 
 mul-lengths : tie.Need-overflow-mul-lengths
 mul-lengths c = omega (arith, product_le c.before.before.before.before.before.before.before.args.n c.before.before.before.before.before.before.before.args.n c.before.before.before.before.before.before.if1.false c.before.before.before.before.before.before.if1.false)

@@ -4,7 +4,7 @@ use mathlib.Core.Path.{sym}
 use native.Mathlib.Omega.{arith}
 use borrow.Author.Rules.{rules}
 use lib.Seq.{length-take-le}
-use borrow.Author.Tests.{not_true, not-false}
+use borrow.Author.Tests.{not-true, not-false}
 use Rattle.lanczos.specs.Run.{ran}
 use Rattle.lanczos.specs.SizesLaws.{some_steps, room_of_lem}
 use Rattle.lanczos.proofs.run.run.Statement.{statement}
@@ -24,7 +24,7 @@ answered-requires c κs = search rules
 
 returns : tie.Need-returns
 unfolding ran
-returns c = rw (← c.before.before.before.before.norm.ensures, ← c.before.before.before.is_finite.ensures, not_true c.before.before.before.is_finite.result c.before.before.if1.true, ← c.before.class_of.ensures, ← c.answered.ensures, c.before.before.before.before.before.before.before.before.before.requires.6)
+returns c = rw (← c.before.before.before.before.norm.ensures, ← c.before.before.before.is_finite.ensures, not-true c.before.before.before.is_finite.result c.before.before.if1.true, ← c.before.class_of.ensures, ← c.answered.ensures, c.before.before.before.before.before.before.before.before.before.requires.6)
 
 size-requires : tie.Need-size-requires
 size-requires c κs = search rules

@@ -2,7 +2,7 @@
 -- `lanczos_pairs::tridiagonal_matrix::tri_row` meets its contract.
 use native.Mathlib.Omega.{arith}
 use borrow.Author.Rules.{rules}
-use borrow.Author.Tests.{lt_ltb, le-ltb}
+use borrow.Author.Tests.{lt-ltb, le-ltb}
 use Rattle.lanczos_pairs.proofs.tridiagonal_matrix.tri_row.Statement.{statement}
 use Rattle.lanczos_pairs.proofs.tridiagonal_matrix.tri_row.Tie as tie
 
@@ -40,7 +40,7 @@ same_length : tie.Need-same-length
 same_length c = omega arith
 
 returns : tie.Need-returns
-returns c = rw (lt_ltb _ _ c.before.before.before.before.before.before.before.before.before.if1.true, ← c.before.before.before.before.before.before.before.before.before.before.before.before.put-entry.ensures, ← c.before.before.before.before.before.before.put-entry2.ensures) c.before.before.put-entry3.ensures
+returns c = rw (lt-ltb _ _ c.before.before.before.before.before.before.before.before.before.if1.true, ← c.before.before.before.before.before.before.before.before.before.before.before.before.put-entry.ensures, ← c.before.before.before.before.before.before.put-entry2.ensures) c.before.before.put-entry3.ensures
 
 same-length-2 : tie.Need-same-length-2
 same-length-2 c = omega arith

@@ -2,7 +2,7 @@
 -- `lanczos_steps::step_end::end` meets its contract.
 use Rattle.std.proofs.Common.{◌≡◌, ℕ, ◌+◌, true, false, set, sym, ◌∙◌, arith, rules}
 use lib.Ieee.{Float, lt}
-use borrow.Author.Tests.{not_true, not-false}
+use borrow.Author.Tests.{not-true, not-false}
 use Rattle.grid.specs.Real.{Vec}
 use Rattle.leaves.specs.Leaf.{is_finite}
 use Rattle.leaves.specs.Scan.{class_of}
@@ -39,7 +39,7 @@ add-t11 : tie.Need-overflow-add-t11
 add-t11 c = omega arith
 
 returns : tie.Need-returns
-returns c = refused _ _ _ _ _ _ _ _ (sym c.before.before.before.is-finite.ensures ∙ not_true c.before.before.before.is-finite.result c.before.before.if1.true) c.before.class_of.ensures c.answered.ensures
+returns c = refused _ _ _ _ _ _ _ _ (sym c.before.before.before.is-finite.ensures ∙ not-true c.before.before.before.is-finite.result c.before.before.if1.true) c.before.class_of.ensures c.answered.ensures
 
 mul-be : tie.Need-overflow-mul-be
 mul-be c = omega arith

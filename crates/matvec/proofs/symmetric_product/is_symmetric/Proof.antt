@@ -6,7 +6,7 @@ use native.Mathlib.Omega.{arith}
 use borrow.Author.Rules.{rules}
 use mathlib.Core.Bool.{true, true≢false}
 use Rattle.matvec.specs.Symmetry.{Row, symmetric_of, four_rows, symmetric_fours}
-use borrow.Author.Tests.{not_true, not-false}
+use borrow.Author.Tests.{not-true, not-false}
 use Rattle.matvec.proofs.symmetric_product.is_symmetric.Statement.{statement}
 use Rattle.matvec.proofs.symmetric_product.is_symmetric.Tie as tie
 
@@ -29,7 +29,7 @@ rows-same-requires : tie.Need-rows-same-requires invariant-loop decreases-loop
 rows-same-requires c κs = search rules
 
 returns-2 : tie.Need-returns-2 invariant-loop decreases-loop
-returns-2 c = (λ e. absurd (true≢false (sym e)), λ h. sym (not_true c.before.rows_same.result c.if2.true) ∙ c.before.rows_same.ensures.1 (symmetric_fours c.before.before.before.before.before.before.args.n c.before.before.before.before.before.before.args.a.now c.before.before.before.loop.i (omega arith) h.1))
+returns-2 c = (λ e. absurd (true≢false (sym e)), λ h. sym (not-true c.before.rows_same.result c.if2.true) ∙ c.before.rows_same.ensures.1 (symmetric_fours c.before.before.before.before.before.before.args.n c.before.before.before.before.before.before.args.a.now c.before.before.before.loop.i (omega arith) h.1))
 
 add-i : tie.Need-overflow-add-i invariant-loop decreases-loop
 add-i c = omega arith

@@ -6,7 +6,7 @@ use native.Mathlib.Omega.{arith}
 use borrow.Author.Rules.{rules}
 use mathlib.Core.Bool.{true, true≢false}
 use Rattle.matvec.specs.Symmetry.{Fours, one_further}
-use borrow.Author.Tests.{not_true, not-false}
+use borrow.Author.Tests.{not-true, not-false}
 use Rattle.matvec.proofs.symmetric_product.rows_same.Statement.{statement}
 use Rattle.matvec.proofs.symmetric_product.rows_same.Tie as tie
 
@@ -26,7 +26,7 @@ four-same-requires : tie.Need-four-same-requires invariant-loop decreases-loop
 four-same-requires c κs = search rules
 
 returns : tie.Need-returns invariant-loop decreases-loop
-returns c = (λ e. absurd (true≢false (sym e)), λ f. sym (not_true c.before.four_same.result c.if1.true) ∙ c.before.four_same.ensures.1 (f c.before.before.before.loop.j (omega arith)))
+returns c = (λ e. absurd (true≢false (sym e)), λ f. sym (not-true c.before.four_same.result c.if1.true) ∙ c.before.four_same.ensures.1 (f c.before.before.before.loop.j (omega arith)))
 
 add-j : tie.Need-overflow-add-j invariant-loop decreases-loop
 add-j c = omega arith

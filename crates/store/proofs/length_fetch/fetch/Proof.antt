@@ -5,7 +5,7 @@ use native.Mathlib.Omega.{arith}
 use borrow.Author.Rules.{rules}
 use lib.ListN.{length}
 use lib.Seq.{length-take-le}
-use borrow.Author.Tests.{not_true, not-false, lt_ltb, le-ltb, eq-eqb, ne_eqb}
+use borrow.Author.Tests.{not-true, not-false, lt-ltb, le-ltb, eq-eqb, ne_eqb}
 use Rattle.store_definition.specs.Store.{held_of, length_at, fetch_of}
 use Rattle.store_definition.specs.SoundLaws.{Facts, facts}
 use Rattle.store_definition.specs.StartLaws.{start_below, start_ends}
@@ -20,7 +20,7 @@ refused-requires c κs = search rules
 
 returns : tie.Need-returns
 unfolding fetch_of
-returns c = rw (← c.before.before.is_sound.ensures, not_true c.before.before.is_sound.result c.before.if1.true, c.refused.ensures)
+returns c = rw (← c.before.before.is_sound.ensures, not-true c.before.before.is_sound.result c.before.if1.true, c.refused.ensures)
 
 shared-slice-read-held : tie.Need-shared-slice-read-held
 shared-slice-read-held c = let f = facts c.before.before.before.before.before.before.before.args.entries c.before.before.before.before.before.before.before.args.list.now c.before.before.before.before.before.before.before.args.tiles.now c.before.before.before.before.before.before.before.args.bytes.now (sym c.before.before.is_sound.ensures ∙ not-false c.before.before.is_sound.result c.before.if1.false) in omega arith
@@ -52,7 +52,7 @@ refused-requires-3 c κs = search rules
 
 returns-3 : tie.Need-returns-3
 unfolding fetch_of
-returns-3 c = rw (← c.before.before.before.before.before.before.before.before.is_sound.ensures, not-false c.before.before.before.before.before.before.before.before.is_sound.result c.before.before.before.before.before.before.before.if1.false, ← c.before.before.before.before.find.ensures, lt_ltb c.before.before.before.before.find.result (held_of c.before.before.before.before.before.before.before.before.before.before.before.before.before.args.list.now) c.before.before.before.if2.false, ne_eqb (length c.before.before.before.before.before.before.before.before.before.before.before.before.before.args.out.now) (length_at c.before.before.before.before.before.before.before.before.before.before.before.before.before.args.list.now c.before.before.before.before.find.result) c.before.if3.true, c.refused3.ensures)
+returns-3 c = rw (← c.before.before.before.before.before.before.before.before.is_sound.ensures, not-false c.before.before.before.before.before.before.before.before.is_sound.result c.before.before.before.before.before.before.before.if1.false, ← c.before.before.before.before.find.ensures, lt-ltb c.before.before.before.before.find.result (held_of c.before.before.before.before.before.before.before.before.before.before.before.before.before.args.list.now) c.before.before.before.if2.false, ne_eqb (length c.before.before.before.before.before.before.before.before.before.before.before.before.before.args.out.now) (length_at c.before.before.before.before.before.before.before.before.before.before.before.before.before.args.list.now c.before.before.before.before.find.result) c.before.if3.true, c.refused3.ensures)
 
 start-of-requires : tie.Need-start-of-requires
 start-of-requires c κs = let f = facts c.before.before.before.before.before.before.before.before.before.before.before.before.args.entries c.before.before.before.before.before.before.before.before.before.before.before.before.args.list.now c.before.before.before.before.before.before.before.before.before.before.before.before.args.tiles.now c.before.before.before.before.before.before.before.before.before.before.before.before.args.bytes.now (sym c.before.before.before.before.before.before.before.is_sound.ensures ∙ not-false c.before.before.before.before.before.before.before.is_sound.result c.before.before.before.before.before.before.if1.false) in (omega arith, omega (arith, start_below c.before.before.before.before.before.before.before.before.before.before.before.before.args.list.now c.before.before.before.find.result (held_of c.before.before.before.before.before.before.before.before.before.before.before.before.args.list.now) (omega arith)))
@@ -68,7 +68,7 @@ same_length c = search rules
 
 returns-4 : tie.Need-returns-4
 unfolding fetch_of
-returns-4 c = rw (← c.before.before.before.before.before.before.before.before.before.before.before.before.before.is_sound.ensures, not-false c.before.before.before.before.before.before.before.before.before.before.before.before.before.is_sound.result c.before.before.before.before.before.before.before.before.before.before.before.before.if1.false, ← c.before.before.before.before.before.before.before.before.before.find.ensures, lt_ltb c.before.before.before.before.before.before.before.before.before.find.result (held_of c.before.before.before.before.before.before.before.before.before.before.before.before.before.before.before.before.before.before.args.list.now) c.before.before.before.before.before.before.before.before.if2.false, eq-eqb (length c.before.before.before.before.before.before.before.before.before.before.before.before.before.before.before.before.before.before.args.out.now) (length_at c.before.before.before.before.before.before.before.before.before.before.before.before.before.before.before.before.before.before.args.list.now c.before.before.before.before.before.before.before.before.before.find.result) c.before.before.before.before.before.before.if3.false, c.before.before.before.copy-out.ensures, c.before.before.before.before.before.start_of_lem.ensures, c.done.ensures)
+returns-4 c = rw (← c.before.before.before.before.before.before.before.before.before.before.before.before.before.is_sound.ensures, not-false c.before.before.before.before.before.before.before.before.before.before.before.before.before.is_sound.result c.before.before.before.before.before.before.before.before.before.before.before.before.if1.false, ← c.before.before.before.before.before.before.before.before.before.find.ensures, lt-ltb c.before.before.before.before.before.before.before.before.before.find.result (held_of c.before.before.before.before.before.before.before.before.before.before.before.before.before.before.before.before.before.before.args.list.now) c.before.before.before.before.before.before.before.before.if2.false, eq-eqb (length c.before.before.before.before.before.before.before.before.before.before.before.before.before.before.before.before.before.before.args.out.now) (length_at c.before.before.before.before.before.before.before.before.before.before.before.before.before.before.before.before.before.before.args.list.now c.before.before.before.before.before.before.before.before.before.find.result) c.before.before.before.before.before.before.if3.false, c.before.before.before.copy-out.ensures, c.before.before.before.before.before.start_of_lem.ensures, c.done.ensures)
 
 pub fetch_spec : {M : Type 1} → statement M
 fetch_spec =

@@ -4,7 +4,7 @@ use mathlib.Core.Path.{◌∙◌, sym}
 use native.Mathlib.Omega.{arith}
 use borrow.Author.Rules.{rules}
 use lib.Seq.{length-take-le}
-use borrow.Author.Tests.{not_true, not-false, lt_ltb, le-ltb}
+use borrow.Author.Tests.{not-true, not-false, lt-ltb, le-ltb}
 use Rattle.store_definition.specs.Store.{held_of, length_held}
 use Rattle.store_definition.specs.SoundLaws.{Facts, facts}
 use Rattle.store.proofs.length_fetch.length_of.Statement.{statement}
@@ -18,7 +18,7 @@ refused-requires c κs = search rules
 
 returns : tie.Need-returns
 unfolding length_held
-returns c = rw (← c.before.before.is_sound.ensures, not_true c.before.before.is_sound.result c.before.if1.true, c.refused.ensures)
+returns c = rw (← c.before.before.is_sound.ensures, not-true c.before.before.is_sound.result c.before.if1.true, c.refused.ensures)
 
 shared-slice-read-held : tie.Need-shared-slice-read-held
 shared-slice-read-held c = let f = facts c.before.before.before.before.before.before.args.entries c.before.before.before.before.before.before.args.list.now c.before.before.before.before.before.before.args.tiles.now c.before.before.before.before.before.before.args.bytes.now (sym c.before.before.is_sound.ensures ∙ not-false c.before.before.is_sound.result c.before.if1.false) in omega arith
@@ -50,7 +50,7 @@ done-requires c κs = search rules
 
 returns-3 : tie.Need-returns-3
 unfolding length_held
-returns-3 c = rw (← c.before.before.before.before.before.before.before.is_sound.ensures, not-false c.before.before.before.before.before.before.before.is_sound.result c.before.before.before.before.before.before.if1.false, ← c.before.before.before.find.ensures, lt_ltb c.before.before.before.find.result (held_of c.before.before.before.before.before.before.before.before.before.before.before.args.list.now) c.before.before.if2.false, c.done.ensures)
+returns-3 c = rw (← c.before.before.before.before.before.before.before.is_sound.ensures, not-false c.before.before.before.before.before.before.before.is_sound.result c.before.before.before.before.before.before.if1.false, ← c.before.before.before.find.ensures, lt-ltb c.before.before.before.find.result (held_of c.before.before.before.before.before.before.before.before.before.before.before.args.list.now) c.before.before.if2.false, c.done.ensures)
 
 pub length-of-spec : {M : Type 1} → statement M
 length-of-spec =

@@ -5,7 +5,7 @@ use native.Mathlib.Omega.{arith}
 use borrow.Author.Rules.{rules}
 use lib.ListN.{length}
 use lib.Seq.{length-take-le}
-use borrow.Author.Tests.{le-leb, lt-leb, eq-eqb, ne_eqb, not_true, not-false}
+use borrow.Author.Tests.{le-leb, lt-leb, eq-eqb, ne_eqb, not-true, not-false}
 use Rattle.store_definition.specs.Store.{room_of, held_of, sound}
 use Rattle.store_definition.specs.SoundLaws.{listed_lists, listed_tiled}
 use Rattle.store.proofs.loops.is_sound.Statement.{statement}
@@ -16,7 +16,7 @@ is-listed-requires c κs = search rules
 
 returns : tie.Need-returns
 unfolding sound
-returns c = rw (← c.before.is-listed.ensures, not_true c.before.is-listed.result c.if1.true)
+returns c = rw (← c.before.is-listed.ensures, not-true c.before.is-listed.result c.if1.true)
 
 shared-slice-read-room : tie.Need-shared-slice-read-room
 shared-slice-read-room c = omega (arith, listed_lists c.before.before.before.before.before.before.args.entries c.before.before.before.before.before.before.args.list.now c.before.before.before.before.before.before.args.tiles.now (sym c.before.before.is-listed.ensures ∙ not-false c.before.before.is-listed.result c.before.if1.false))
@@ -41,7 +41,7 @@ within-requires c κs = omega (arith, listed_lists c.before.before.before.before
 
 returns-5 : tie.Need-returns-5
 unfolding sound
-returns-5 c = rw (← c.before.before.before.before.before.before.before.before.is-listed.ensures, not-false c.before.before.before.before.before.before.before.before.is-listed.result c.before.before.before.before.before.before.before.if1.false, le-leb (room_of c.before.before.before.before.before.before.before.before.before.before.before.before.args.list.now) 65536 c.before.before.before.before.before.if2.false, eq-eqb (length c.before.before.before.before.before.before.before.before.before.before.before.before.args.bytes.now) (room_of c.before.before.before.before.before.before.before.before.before.before.before.before.args.list.now) c.before.before.before.before.if3.false, le-leb (held_of c.before.before.before.before.before.before.before.before.before.before.before.before.args.list.now) c.before.before.before.before.before.before.before.before.before.before.before.before.args.entries c.before.before.if4.false, ← c.before.within.ensures, not_true c.before.within.result c.if5.true)
+returns-5 c = rw (← c.before.before.before.before.before.before.before.before.is-listed.ensures, not-false c.before.before.before.before.before.before.before.before.is-listed.result c.before.before.before.before.before.before.before.if1.false, le-leb (room_of c.before.before.before.before.before.before.before.before.before.before.before.before.args.list.now) 65536 c.before.before.before.before.before.if2.false, eq-eqb (length c.before.before.before.before.before.before.before.before.before.before.before.before.args.bytes.now) (room_of c.before.before.before.before.before.before.before.before.before.before.before.before.args.list.now) c.before.before.before.before.if3.false, le-leb (held_of c.before.before.before.before.before.before.before.before.before.before.before.before.args.list.now) c.before.before.before.before.before.before.before.before.before.before.before.before.args.entries c.before.before.if4.false, ← c.before.within.ensures, not-true c.before.within.result c.if5.true)
 
 slice-aggregate-differ : tie.Need-slice-aggregate-differ
 slice-aggregate-differ c = sym (length-take-le (held_of c.before.before.before.before.before.before.before.before.before.before.before.before.before.args.list.now) c.before.before.before.before.before.before.before.before.before.before.before.before.before.args.tiles.now (omega (arith, listed_tiled c.before.before.before.before.before.before.before.before.before.before.before.before.before.args.entries c.before.before.before.before.before.before.before.before.before.before.before.before.before.args.list.now c.before.before.before.before.before.before.before.before.before.before.before.before.before.args.tiles.now (sym c.before.before.before.before.before.before.before.before.before.is-listed.ensures ∙ not-false c.before.before.before.before.before.before.before.before.before.is-listed.result c.before.before.before.before.before.before.before.before.if1.false))))

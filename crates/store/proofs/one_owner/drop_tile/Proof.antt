@@ -4,7 +4,7 @@ use mathlib.Core.Path.{◌∙◌, refl, sym}
 use native.Mathlib.Omega.{arith}
 use borrow.Author.Rules.{rules}
 use lib.Seq.{length-take-le}
-use borrow.Author.Tests.{not_true, not-false, lt_ltb, le-ltb}
+use borrow.Author.Tests.{not-true, not-false, lt-ltb, le-ltb}
 use Rattle.store_definition.specs.Store.{held_of, drop_of}
 use Rattle.store.proofs.one_owner.Sound.{found, remove_asked}
 use Rattle.store.proofs.one_owner.drop_tile.Statement.{statement}
@@ -27,7 +27,7 @@ same-length-3 c = refl
 
 returns : tie.Need-returns
 unfolding drop_of
-returns c = rw (← c.before.before.is_sound.ensures, not_true c.before.before.is_sound.result c.before.if1.true, c.refused.ensures)
+returns c = rw (← c.before.before.is_sound.ensures, not-true c.before.before.is_sound.result c.before.if1.true, c.refused.ensures)
 
 slice-read-held : tie.Need-slice-read-held
 slice-read-held c = let f = found c.before.before.before.before.before.before.before.before.before.args.entries c.before.before.before.before.before.before.before.before.before.args.list.now c.before.before.before.before.before.before.before.before.before.args.tiles.now c.before.before.before.before.before.before.before.before.before.args.bytes.now c.before.before.is_sound.result c.before.before.is_sound.ensures c.before.if1.false in omega (arith, f.lists, f.tiled, f.few)
@@ -71,7 +71,7 @@ same-length-9 c = c.before.before.before.before.before.before.remove.auto.1.1.0
 
 returns-3 : tie.Need-returns-3
 unfolding drop_of
-returns-3 c = c.before.before.before.before.before.before.remove.ensures ∙ rw (← c.before.before.before.before.before.before.before.before.before.before.before.before.before.before.before.is_sound.ensures, not-false c.before.before.before.before.before.before.before.before.before.before.before.before.before.before.before.is_sound.result c.before.before.before.before.before.before.before.before.before.before.before.before.before.before.if1.false, ← c.before.before.before.before.before.before.before.before.before.before.before.find.ensures, lt_ltb c.before.before.before.before.before.before.before.before.before.before.before.find.result (held_of c.before.before.before.before.before.before.before.before.before.before.before.before.before.before.before.before.before.before.before.before.before.before.args.list.now) c.before.before.before.before.before.before.before.before.before.before.if2.false)
+returns-3 c = c.before.before.before.before.before.before.remove.ensures ∙ rw (← c.before.before.before.before.before.before.before.before.before.before.before.before.before.before.before.is_sound.ensures, not-false c.before.before.before.before.before.before.before.before.before.before.before.before.before.before.before.is_sound.result c.before.before.before.before.before.before.before.before.before.before.before.before.before.before.if1.false, ← c.before.before.before.before.before.before.before.before.before.before.before.find.ensures, lt-ltb c.before.before.before.before.before.before.before.before.before.before.before.find.result (held_of c.before.before.before.before.before.before.before.before.before.before.before.before.before.before.before.before.before.before.before.before.before.before.args.list.now) c.before.before.before.before.before.before.before.before.before.before.if2.false)
 
 pub drop-tile-spec : {M : Type 1} → statement M
 drop-tile-spec =

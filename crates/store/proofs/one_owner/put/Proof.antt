@@ -4,7 +4,7 @@ use mathlib.Core.Path.{refl, sym}
 use native.Mathlib.Omega.{arith}
 use borrow.Author.Rules.{rules}
 use lib.Seq.{length-take-le}
-use borrow.Author.Tests.{not_true, not-false, lt_ltb, le-ltb, le-leb}
+use borrow.Author.Tests.{not-true, not-false, lt-ltb, le-ltb, le-leb}
 use Rattle.store_definition.specs.Store.{held_of, put_of}
 use Rattle.store.proofs.one_owner.Sound.{found, start_asked, used_fits, add_asked, put_added, put_over}
 use Rattle.store.proofs.one_owner.put.Statement.{statement}
@@ -27,7 +27,7 @@ same-length-3 c = refl
 
 returns : tie.Need-returns
 unfolding put_of
-returns c = rw (← c.before.before.is_sound.ensures, not_true c.before.before.is_sound.result c.before.if1.true, c.refused.ensures)
+returns c = rw (← c.before.before.is_sound.ensures, not-true c.before.before.is_sound.result c.before.if1.true, c.refused.ensures)
 
 slice-read-held : tie.Need-slice-read-held
 slice-read-held c = let f = found c.before.before.before.before.before.before.before.before.before.before.args.entries c.before.before.before.before.before.before.before.before.before.before.args.list.now c.before.before.before.before.before.before.before.before.before.before.args.tiles.now c.before.before.before.before.before.before.before.before.before.before.args.bytes.now c.before.before.is_sound.result c.before.before.is_sound.ensures c.before.if1.false in omega (arith, f.lists, f.tiled, f.few)
@@ -55,7 +55,7 @@ same-length-6 c = refl
 
 returns-2 : tie.Need-returns-2
 unfolding put_of
-returns-2 c = rw (← c.before.before.before.before.before.before.is_sound.ensures, not-false c.before.before.before.before.before.before.is_sound.result c.before.before.before.before.before.if1.false, ← c.before.before.find.ensures, lt_ltb c.before.before.find.result (held_of c.before.before.before.before.before.before.before.before.before.before.before.before.before.before.args.list.now) c.before.if2.true, c.refused2.ensures)
+returns-2 c = rw (← c.before.before.before.before.before.before.is_sound.ensures, not-false c.before.before.before.before.before.before.is_sound.result c.before.before.before.before.before.if1.false, ← c.before.before.find.ensures, lt-ltb c.before.before.find.result (held_of c.before.before.before.before.before.before.before.before.before.before.before.before.before.before.args.list.now) c.before.if2.true, c.refused2.ensures)
 
 refused-requires-3 : tie.Need-refused-requires-3
 refused-requires-3 c κs = search rules

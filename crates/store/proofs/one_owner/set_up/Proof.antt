@@ -5,7 +5,7 @@ use native.Mathlib.Omega.{arith}
 use borrow.Author.Rules.{rules}
 use lib.ListN.{length-set}
 use lib.ListN.{length}
-use borrow.Author.Tests.{not_true, not-false, lt_ltb, le-ltb}
+use borrow.Author.Tests.{not-true, not-false, lt-ltb, le-ltb}
 use Rattle.store_definition.specs.Store.{set_up}
 use Rattle.store_definition.specs.SoundLaws.{listed_lists}
 use Rattle.store.proofs.one_owner.set_up.Statement.{statement}
@@ -16,7 +16,7 @@ refused-requires c κs = search rules
 
 returns : tie.Need-returns
 unfolding set_up
-returns c = rw (lt_ltb 65536 (length c.before.before.before.before.before.args.bytes.now) c.before.if1.true) (ap (λ x. (x, c.before.before.before.before.before.args.list.now)) c.refused.ensures)
+returns c = rw (lt-ltb 65536 (length c.before.before.before.before.before.args.bytes.now) c.before.if1.true) (ap (λ x. (x, c.before.before.before.before.before.args.list.now)) c.refused.ensures)
 
 is-listed-requires : tie.Need-is-listed-requires
 is-listed-requires c κs = search rules
@@ -29,7 +29,7 @@ same_length c = search rules
 
 returns-2 : tie.Need-returns-2
 unfolding set_up
-returns-2 c = rw (le-ltb 65536 (length c.before.before.before.before.before.before.before.before.args.bytes.now) c.before.before.before.before.if1.false, ← c.before.before.is-listed.ensures, not_true c.before.before.is-listed.result c.before.if2.true, c.refused2.ensures)
+returns-2 c = rw (le-ltb 65536 (length c.before.before.before.before.before.before.before.before.args.bytes.now) c.before.before.before.before.if1.false, ← c.before.before.is-listed.ensures, not-true c.before.before.is-listed.result c.before.if2.true, c.refused2.ensures)
 
 slice-write-list : tie.Need-slice-write-list
 slice-write-list c = omega (arith, listed_lists c.before.before.before.before.before.before.before.args.entries c.before.before.before.before.before.before.before.args.list.now c.before.before.before.before.before.before.before.args.tiles.now (sym c.before.is-listed.ensures ∙ not-false c.before.is-listed.result c.if2.false))

@@ -5,7 +5,7 @@ use Prim.Native.Nat.{◌+◌}
 use native.Mathlib.Omega.{arith}
 use borrow.Author.Rules.{rules}
 use lib.ListN.{length, get_or}
-use borrow.Author.Tests.{le-leb, lt-leb, eq-eqb, ne_eqb, not_true, not-false}
+use borrow.Author.Tests.{le-leb, lt-leb, eq-eqb, ne_eqb, not-true, not-false}
 use Rattle.store_definition.specs.Store.{room_of}
 use Rattle.store_definition.specs.Owners.{quota_of, laid}
 use Rattle.store_definition.specs.LaidLaws.{listed2_lists, eqb_minus}
@@ -17,7 +17,7 @@ is-listed-requires c κs = search rules
 
 returns : tie.Need-returns
 unfolding laid
-returns c = rw (← c.before.is-listed.ensures, not_true c.before.is-listed.result c.if1.true)
+returns c = rw (← c.before.is-listed.ensures, not-true c.before.is-listed.result c.if1.true)
 
 shared-slice-read-room : tie.Need-shared-slice-read-room
 shared-slice-read-room c = omega (arith, listed2_lists c.before.before.before.before.before.before.args.list.now c.before.before.before.before.before.before.args.tiles.now (sym c.before.before.is-listed.ensures ∙ not-false c.before.before.is-listed.result c.before.if1.false))

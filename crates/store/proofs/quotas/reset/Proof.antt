@@ -4,7 +4,7 @@ use mathlib.Core.Path.{◌∙◌, sym}
 use native.Mathlib.Omega.{arith}
 use borrow.Author.Rules.{rules}
 use lib.ListN.{length-set}
-use borrow.Author.Tests.{not_true, not-false}
+use borrow.Author.Tests.{not-true, not-false}
 use Rattle.store_definition.specs.Owners.{reset}
 use Rattle.store_definition.specs.LaidLaws.{Laid, laid_facts, both_laid}
 use Rattle.store.proofs.quotas.reset.Statement.{statement}
@@ -21,7 +21,7 @@ same_length c = search rules
 
 returns : tie.Need-returns
 unfolding reset
-returns c = rw (← c.before.before.is-sound-both.ensures, not_true c.before.before.is-sound-both.result c.before.if1.true, c.refused.ensures)
+returns c = rw (← c.before.before.is-sound-both.ensures, not-true c.before.before.is-sound-both.result c.before.if1.true, c.refused.ensures)
 
 slice-write-list : tie.Need-slice-write-list
 slice-write-list c = let f = laid_facts c.before.before.before.before.before.before.args.list.now c.before.before.before.before.before.before.args.tiles.now c.before.before.before.before.before.before.args.bytes.now (both_laid c.before.before.before.before.before.before.args.list.now c.before.before.before.before.before.before.args.tiles.now c.before.before.before.before.before.before.args.bytes.now (sym c.before.is-sound-both.ensures ∙ not-false c.before.is-sound-both.result c.if1.false)) in omega arith

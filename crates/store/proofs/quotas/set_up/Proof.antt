@@ -6,7 +6,7 @@ use native.Mathlib.Omega.{arith}
 use borrow.Author.Rules.{rules}
 use lib.ListN.{length-set}
 use lib.ListN.{length}
-use borrow.Author.Tests.{not_true, not-false, lt_ltb, le-ltb}
+use borrow.Author.Tests.{not-true, not-false, lt-ltb, le-ltb}
 use Rattle.store_definition.specs.Owners.{set_up2}
 use Rattle.store_definition.specs.LaidLaws.{listed2_lists}
 use Rattle.store.proofs.quotas.set_up.Statement.{statement}
@@ -17,21 +17,21 @@ refused-requires c κs = search rules
 
 returns : tie.Need-returns
 unfolding set_up2
-returns c = rw (lt_ltb 65536 (length c.before.before.before.before.before.args.bytes.now) c.before.if1.true, c.refused.ensures)
+returns c = rw (lt-ltb 65536 (length c.before.before.before.before.before.args.bytes.now) c.before.if1.true, c.refused.ensures)
 
 refused-requires-2 : tie.Need-refused-requires-2
 refused-requires-2 c κs = search rules
 
 returns-2 : tie.Need-returns-2
 unfolding set_up2
-returns-2 c = rw (le-ltb 65536 (length c.before.before.before.before.before.before.args.bytes.now) c.before.before.if1.false, lt_ltb (length c.before.before.before.before.before.before.args.bytes.now) (c.before.before.before.before.before.before.args.quota0 + c.before.before.before.before.before.before.args.quota1) (omega (arith, c.before.if2.true)), c.refused2.ensures)
+returns-2 c = rw (le-ltb 65536 (length c.before.before.before.before.before.before.args.bytes.now) c.before.before.if1.false, lt-ltb (length c.before.before.before.before.before.before.args.bytes.now) (c.before.before.before.before.before.before.args.quota0 + c.before.before.before.before.before.before.args.quota1) (omega (arith, c.before.if2.true)), c.refused2.ensures)
 
 refused-requires-3 : tie.Need-refused-requires-3
 refused-requires-3 c κs = search rules
 
 returns-3 : tie.Need-returns-3
 unfolding set_up2
-returns-3 c = rw (le-ltb 65536 (length c.before.before.before.before.before.before.before.args.bytes.now) c.before.before.before.if1.false, lt_ltb (length c.before.before.before.before.before.before.before.args.bytes.now) (c.before.before.before.before.before.before.before.args.quota0 + c.before.before.before.before.before.before.before.args.quota1) (omega (arith, c.before.before.if2.false, c.before.if3.true)), c.refused3.ensures)
+returns-3 c = rw (le-ltb 65536 (length c.before.before.before.before.before.before.before.args.bytes.now) c.before.before.before.if1.false, lt-ltb (length c.before.before.before.before.before.before.before.args.bytes.now) (c.before.before.before.before.before.before.before.args.quota0 + c.before.before.before.before.before.before.before.args.quota1) (omega (arith, c.before.before.if2.false, c.before.if3.true)), c.refused3.ensures)
 
 is-listed-requires : tie.Need-is-listed-requires
 is-listed-requires c κs = search rules
@@ -44,7 +44,7 @@ same_length c = search rules
 
 returns-4 : tie.Need-returns-4
 unfolding set_up2
-returns-4 c = rw (le-ltb 65536 (length c.before.before.before.before.before.before.before.before.before.before.args.bytes.now) c.before.before.before.before.before.before.if1.false, le-ltb (length c.before.before.before.before.before.before.before.before.before.before.args.bytes.now) (c.before.before.before.before.before.before.before.before.before.before.args.quota0 + c.before.before.before.before.before.before.before.before.before.before.args.quota1) (omega (arith, c.before.before.before.before.before.if2.false, c.before.before.before.before.if3.false)), ← c.before.before.is-listed.ensures, not_true c.before.before.is-listed.result c.before.if4.true, c.refused4.ensures)
+returns-4 c = rw (le-ltb 65536 (length c.before.before.before.before.before.before.before.before.before.before.args.bytes.now) c.before.before.before.before.before.before.if1.false, le-ltb (length c.before.before.before.before.before.before.before.before.before.before.args.bytes.now) (c.before.before.before.before.before.before.before.before.before.before.args.quota0 + c.before.before.before.before.before.before.before.before.before.before.args.quota1) (omega (arith, c.before.before.before.before.before.if2.false, c.before.before.before.before.if3.false)), ← c.before.before.is-listed.ensures, not-true c.before.before.is-listed.result c.before.if4.true, c.refused4.ensures)
 
 slice-write-list : tie.Need-slice-write-list
 slice-write-list c = omega (arith, listed2_lists c.before.before.before.before.before.before.before.before.before.args.list.now c.before.before.before.before.before.before.before.before.before.args.tiles.now (sym c.before.is-listed.ensures ∙ not-false c.before.is-listed.result c.if4.false))

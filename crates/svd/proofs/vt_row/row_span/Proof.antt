@@ -4,7 +4,7 @@ use mathlib.Core.Path.{◌≡◌, ◌∙◌}
 use Prim.Native.Nat.{ℕ, ◌*◌, ◌≤◌}
 use native.Mathlib.Omega.{arith}
 use borrow.Author.Rules.{rules}
-use borrow.Author.Tests.{lt_ltb, le-ltb, lt-leb, le-leb, eq-eqb, ne_eqb}
+use borrow.Author.Tests.{lt-ltb, le-ltb, lt-leb, le-leb, eq-eqb, ne_eqb}
 use Rattle.svd.specs.VtRow.{row_span}
 use Rattle.svd.specs.VtRowLaws.{row_fits}
 use Rattle.answers.specs.Answers.{least}
@@ -39,7 +39,7 @@ decomposition-length-requires c κs = search rules
 
 returns-5 : tie.Need-returns-5
 unfolding row_span
-returns-5 c = (rw (le-leb _ _ c.before.before.before.before.before.before.if1.false, le-leb _ _ c.before.before.before.before.before.if2.false, ne_eqb _ _ c.before.before.before.before.if3.false, ← c.before.before.before.least.ensures, lt_ltb _ _ c.before.before.if4.false, ← c.before.decomposition-length.ensures, ne_eqb _ _ c.if5.true), tt)
+returns-5 c = (rw (le-leb _ _ c.before.before.before.before.before.before.if1.false, le-leb _ _ c.before.before.before.before.before.if2.false, ne_eqb _ _ c.before.before.before.before.if3.false, ← c.before.before.before.least.ensures, lt-ltb _ _ c.before.before.if4.false, ← c.before.decomposition-length.ensures, ne_eqb _ _ c.if5.true), tt)
 
 mul-present : tie.Need-overflow-mul-present
 mul-present c = omega (arith, sizes _ _ _ c.before.before.before.before.before.before.if1.false c.before.before.before.before.before.if2.false c.before.before.before.least.ensures)
@@ -61,7 +61,7 @@ add-t10 c = omega (arith, row_fits c.before.before.before.before.before.before.b
 
 returns-6 : tie.Need-returns-6
 unfolding row_span
-returns-6 c = (rw (le-leb _ _ c.before.before.before.before.before.before.before.if1.false, le-leb _ _ c.before.before.before.before.before.before.if2.false, ne_eqb _ _ c.before.before.before.before.before.if3.false, ← c.before.before.before.before.least.ensures, lt_ltb _ _ c.before.before.before.if4.false, ← c.before.before.decomposition-length.ensures, eq-eqb _ _ c.before.if5.false, ← c.present.ensures), (omega arith, row_fits c.before.before.before.before.before.before.before.before.args.len c.before.before.before.before.before.before.before.before.args.m c.before.before.before.before.before.before.before.before.args.n c.before.before.before.before.before.before.before.before.args.has_u_lem c.before.before.before.before.before.before.before.before.args.has_vt_lem c.before.before.before.before.before.before.before.before.args.j c.before.before.before.before.least.result c.present.result c.before.before.before.before.least.ensures c.present.ensures c.before.before.before.before.before.if3.false c.before.before.before.if4.false (c.before.if5.false ∙ c.before.before.decomposition-length.ensures)))
+returns-6 c = (rw (le-leb _ _ c.before.before.before.before.before.before.before.if1.false, le-leb _ _ c.before.before.before.before.before.before.if2.false, ne_eqb _ _ c.before.before.before.before.before.if3.false, ← c.before.before.before.before.least.ensures, lt-ltb _ _ c.before.before.before.if4.false, ← c.before.before.decomposition-length.ensures, eq-eqb _ _ c.before.if5.false, ← c.present.ensures), (omega arith, row_fits c.before.before.before.before.before.before.before.before.args.len c.before.before.before.before.before.before.before.before.args.m c.before.before.before.before.before.before.before.before.args.n c.before.before.before.before.before.before.before.before.args.has_u_lem c.before.before.before.before.before.before.before.before.args.has_vt_lem c.before.before.before.before.before.before.before.before.args.j c.before.before.before.before.least.result c.present.result c.before.before.before.before.least.ensures c.present.ensures c.before.before.before.before.before.if3.false c.before.before.before.if4.false (c.before.if5.false ∙ c.before.before.decomposition-length.ensures)))
 
 pub row-span-spec : {M : Type 1} → statement M
 row-span-spec =

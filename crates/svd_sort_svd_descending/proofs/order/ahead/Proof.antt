@@ -2,7 +2,7 @@
 -- `svd_sort_svd_descending::order::ahead` meets its contract.
 use native.Mathlib.Omega.{arith}
 use borrow.Author.Rules.{rules}
-use borrow.Author.Tests.{lt_ltb, le-ltb}
+use borrow.Author.Tests.{lt-ltb, le-ltb}
 use Rattle.svd_sort_svd_descending.proofs.order.ahead.Statement.{statement}
 use Rattle.svd_sort_svd_descending.proofs.order.ahead.Tie as tie
 
@@ -25,7 +25,7 @@ returns-2 : tie.Need-returns-2
 returns-2 c = rw (← c.before.before.before.at1.ensures, ← c.before.before.at12.ensures, c.before.if1.false, c.if2.true)
 
 returns-3 : tie.Need-returns-3
-returns-3 c = rw (← c.before.before.before.before.at1.ensures, ← c.before.before.before.at12.ensures, c.before.before.if1.false, c.before.if2.false, lt_ltb c.before.before.before.before.before.before.args.j c.before.before.before.before.before.before.args.k c.if3.true)
+returns-3 c = rw (← c.before.before.before.before.at1.ensures, ← c.before.before.before.at12.ensures, c.before.before.if1.false, c.before.if2.false, lt-ltb c.before.before.before.before.before.before.args.j c.before.before.before.before.before.before.args.k c.if3.true)
 
 returns-4 : tie.Need-returns-4
 returns-4 c = rw (← c.before.before.before.before.at1.ensures, ← c.before.before.before.at12.ensures, c.before.before.if1.false, c.before.if2.false, le-ltb _ _ c.if3.false)

@@ -4,7 +4,7 @@ use mathlib.Core.Path.{◌≡◌, sym, subst}
 use Prim.Native.Nat.{ℕ, ◌-◌, ◌≤◌}
 use native.Mathlib.Omega.{arith}
 use borrow.Author.Rules.{rules}
-use borrow.Author.Tests.{lt_ltb, le-ltb}
+use borrow.Author.Tests.{lt-ltb, le-ltb}
 use Rattle.text.specs.Reading.{digit_at, value}
 use Rattle.grid.specs.Loop.{every}
 use Rattle.grid.specs.LoopLaws.{every_none, every_more, every_fails}
@@ -41,7 +41,7 @@ loop-less : tie.Need-loop-smaller invariant-loop decreases-loop
 loop-less c = omega arith
 
 loop-again : tie.Need-loop-preserved invariant-loop decreases-loop
-loop-again c = (omega arith, every_more (digit_at c.before.before.before.before.before.before.args.t.now c.before.before.before.before.before.before.args.at) c.before.before.before.before.loop.i c.before.before.before.before.loop.invariant.1 (rw (← c.before.before.byte.ensures, ← c.before.value.ensures) (lt_ltb _ _ c.if1.false)))
+loop-again c = (omega arith, every_more (digit_at c.before.before.before.before.before.before.args.t.now c.before.before.before.before.before.before.args.at) c.before.before.before.before.loop.i c.before.before.before.before.loop.invariant.1 (rw (← c.before.before.byte.ensures, ← c.before.value.ensures) (lt-ltb _ _ c.if1.false)))
 
 returns-2 : tie.Need-returns-2 invariant-loop decreases-loop
 returns-2 c = sym (subst (λ (m : ℕ). every (digit_at c.before.before.before.args.t.now c.before.before.before.args.at) m ≡ true) (le_antisymm c.before.loop.invariant.0 c.loop-test.false) c.before.loop.invariant.1)

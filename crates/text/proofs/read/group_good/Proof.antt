@@ -3,7 +3,7 @@
 use native.Mathlib.Omega.{arith}
 use borrow.Author.Rules.{rules}
 use Rattle.text.specs.Reading.{group_at}
-use borrow.Author.Tests.{not_true, not-false}
+use borrow.Author.Tests.{not-true, not-false}
 use Rattle.text.proofs.read.group_good.Statement.{statement}
 use Rattle.text.proofs.read.group_good.Tie as tie
 
@@ -18,7 +18,7 @@ digits-good-requires c κs = search rules
 
 returns : tie.Need-returns
 unfolding group_at
-returns c = rw (← c.before.digits-good.ensures, not_true c.before.digits-good.result c.if1.true)
+returns c = rw (← c.before.digits-good.ensures, not-true c.before.digits-good.result c.if1.true)
 
 add-byte : tie.Need-overflow-add-byte
 add-byte c = omega arith

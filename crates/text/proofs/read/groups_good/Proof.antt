@@ -6,7 +6,7 @@ use native.Mathlib.Omega.{arith}
 use Rattle.text.specs.Reading.{group_at}
 use Rattle.grid.specs.Loop.{every}
 use Rattle.grid.specs.LoopLaws.{every_none, every_more, every_fails}
-use borrow.Author.Tests.{not_true, not-false}
+use borrow.Author.Tests.{not-true, not-false}
 use mathlib.Core.Bool.{true}
 use native.Mathlib.Nat.{le_antisymm}
 use Prim.Native.Nat.{zero, suc}
@@ -30,7 +30,7 @@ group-good-requires : tie.Need-group-good-requires invariant-loop decreases-loop
 group-good-requires c κs = (some c.before.before.before.args.n c.before.loop.k c.before.before.before.args.count c.loop-test.true c.before.before.before.requires.2, omega arith, omega arith)
 
 returns : tie.Need-returns invariant-loop decreases-loop
-returns c = sym (every_fails (group_at c.before.before.before.before.before.args.t.now c.before.before.before.before.before.args.n c.before.before.before.before.before.args.from) c.before.before.before.before.before.args.count c.before.before.before.loop.k c.before.before.loop-test.true (rw (← c.before.group-good.ensures) (not_true c.before.group-good.result c.if1.true)))
+returns c = sym (every_fails (group_at c.before.before.before.before.before.args.t.now c.before.before.before.before.before.args.n c.before.before.before.before.before.args.from) c.before.before.before.before.before.args.count c.before.before.before.loop.k c.before.before.loop-test.true (rw (← c.before.group-good.ensures) (not-true c.before.group-good.result c.if1.true)))
 
 add-k : tie.Need-overflow-add-k invariant-loop decreases-loop
 add-k c = omega arith

@@ -7,7 +7,7 @@ use borrow.Author.Rules.{rules}
 use Rattle.text.specs.Reading.{words_read, word_at}
 use Rattle.octets.specs.Bits.{float}
 use Rattle.text.specs.Stores.{table_map}
-use borrow.Author.Tests.{eq-eqb, ne_eqb, not_true, not-false}
+use borrow.Author.Tests.{eq-eqb, ne_eqb, not-true, not-false}
 use native.Mathlib.Nat.{mul-le-mul}
 use Rattle.text.proofs.read.read_words.Statement.{statement}
 use Rattle.text.proofs.read.read_words.Tie as tie
@@ -30,7 +30,7 @@ groups-good-requires c κs = (omega arith, mul-le-mul c.before.before.before.req
 
 returns-2 : tie.Need-returns-2
 unfolding words_read
-returns-2 c = rw (eq-eqb _ _ c.before.before.if1.false, ← c.before.groups-good.ensures, not_true c.before.groups-good.result c.if2.true)
+returns-2 c = rw (eq-eqb _ _ c.before.before.if1.false, ← c.before.groups-good.ensures, not-true c.before.groups-good.result c.if2.true)
 
 fill-requires : tie.Need-fill-requires
 fill-requires c κs = (omega arith, mul-le-mul c.before.before.before.before.before.before.requires.1 c.before.before.before.before.before.before.requires.1, sym c.before.before.groups-good.ensures ∙ not-false c.before.before.groups-good.result c.before.if2.false)

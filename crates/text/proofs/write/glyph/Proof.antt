@@ -1,7 +1,7 @@
 -- Generated from the answers file beside it by tools/prove/prove.py: edit that.
 -- `text::write::glyph` meets its contract.
 use borrow.Author.Rules.{rules}
-use borrow.Author.Tests.{lt_ltb, le-ltb}
+use borrow.Author.Tests.{lt-ltb, le-ltb}
 use Rattle.text.specs.Writing.{glyph}
 use Rattle.text.proofs.write.glyph.Statement.{statement}
 use Rattle.text.proofs.write.glyph.Tie as tie
@@ -20,7 +20,7 @@ add-result-2 c = search rules
 
 returns : tie.Need-returns
 unfolding glyph
-returns c = rw (lt_ltb _ _ c.if1.true)
+returns c = rw (lt-ltb _ _ c.if1.true)
 
 returns-2 : tie.Need-returns-2
 unfolding glyph

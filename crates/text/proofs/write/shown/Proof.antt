@@ -1,6 +1,6 @@
 -- Generated from the answers file beside it by tools/prove/prove.py: edit that.
 -- `text::write::shown` meets its contract.
-use borrow.Author.Tests.{eq-eqb, ne_eqb, lt_ltb, le-ltb}
+use borrow.Author.Tests.{eq-eqb, ne_eqb, lt-ltb, le-ltb}
 use Rattle.text.specs.Writing.{shown}
 use Rattle.text.proofs.write.shown.Statement.{statement}
 use Rattle.text.proofs.write.shown.Tie as tie
@@ -11,7 +11,7 @@ returns c = rw (ne_eqb _ _ c.if1.true)
 
 returns-2 : tie.Need-returns-2
 unfolding shown
-returns-2 c = rw (eq-eqb _ _ c.before.if1.false, lt_ltb _ _ c.if2.true)
+returns-2 c = rw (eq-eqb _ _ c.before.if1.false, lt-ltb _ _ c.if2.true)
 
 returns-3 : tie.Need-returns-3
 unfolding shown

@@ -5,7 +5,7 @@ use Prim.Native.Nat.{ℕ}
 use native.Mathlib.Omega.{arith}
 use borrow.Author.Rules.{rules}
 use Rattle.text.specs.Stores.{line_put, answer_put, answer_length, shown_size, words_most}
-use borrow.Author.Tests.{not_true, not-false}
+use borrow.Author.Tests.{not-true, not-false}
 use mathlib.Core.List.{List}
 use Rattle.text.proofs.write.write.Statement.{statement}
 use Rattle.text.proofs.write.write.Tie as tie
@@ -23,7 +23,7 @@ same_length : tie.Need-same-length
 same_length c = search rules
 
 returns : tie.Need-returns
-returns c = line_put c.before.before.before.before.before.before.before.before.args.answer c.before.before.before.before.before.before.before.before.args.place c.before.before.before.before.before.before.before.before.args.index c.before.before.before.before.before.before.before.before.args.count c.before.before.before.before.before.before.before.before.args.n c.before.before.before.before.before.before.before.before.args.res.now c.before.before.before.before.before.before.before.before.args.out.now (c.before.before.before.before.put-answer.result, c.before.before.before.before.put-answer.new.0) (sym c.before.shown.ensures ∙ not_true c.before.shown.result c.if1.true) c.before.before.before.before.put-answer.ensures
+returns c = line_put c.before.before.before.before.before.before.before.before.args.answer c.before.before.before.before.before.before.before.before.args.place c.before.before.before.before.before.before.before.before.args.index c.before.before.before.before.before.before.before.before.args.count c.before.before.before.before.before.before.before.before.args.n c.before.before.before.before.before.before.before.before.args.res.now c.before.before.before.before.before.before.before.before.args.out.now (c.before.before.before.before.put-answer.result, c.before.before.before.before.put-answer.new.0) (sym c.before.shown.ensures ∙ not-true c.before.shown.result c.if1.true) c.before.before.before.before.put-answer.ensures
 
 mul-put-lines : tie.Need-overflow-mul-put-lines
 mul-put-lines c = omega (arith, words_most c.before.before.before.before.before.before.before.before.before.args.n (shown_size c.before.before.before.before.before.before.before.before.before.args.answer c.before.before.before.before.before.before.before.before.before.args.n (sym c.before.before.shown.ensures ∙ not-false c.before.before.shown.result c.before.if1.false)).1)

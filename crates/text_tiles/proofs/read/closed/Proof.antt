@@ -1,7 +1,7 @@
 -- Generated from the answers file beside it by tools/prove/prove.py: edit that.
 -- `text_tiles::read::closed` meets its contract.
 use borrow.Author.Rules.{rules}
-use borrow.Author.Tests.{eq-eqb, ne_eqb, not_true, not-false}
+use borrow.Author.Tests.{eq-eqb, ne_eqb, not-true, not-false}
 use Rattle.text_tiles_definition.specs.Lines.{closed}
 use Rattle.text_tiles.proofs.read.closed.Statement.{statement}
 use Rattle.text_tiles.proofs.read.closed.Tie as tie
@@ -11,7 +11,7 @@ ended-requires c κs = search rules
 
 returns : tie.Need-returns
 unfolding closed
-returns c = rw (not_true c.before.before.before.before.args.s.begun c.before.if1.true) c.ended.ensures
+returns c = rw (not-true c.before.before.before.before.args.s.begun c.before.if1.true) c.ended.ensures
 
 returns-2 : tie.Need-returns-2
 unfolding closed

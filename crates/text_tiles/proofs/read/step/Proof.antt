@@ -2,14 +2,14 @@
 -- `text_tiles::read::step` meets its contract.
 use native.Mathlib.Omega.{arith}
 use borrow.Author.Rules.{rules}
-use borrow.Author.Tests.{eq-eqb, ne_eqb, lt_ltb, le-ltb, lt-leb, le-leb}
+use borrow.Author.Tests.{eq-eqb, ne_eqb, lt-ltb, le-ltb, lt-leb, le-leb}
 use Rattle.text_tiles_definition.specs.Lines.{step}
 use Rattle.text_tiles.proofs.read.step.Statement.{statement}
 use Rattle.text_tiles.proofs.read.step.Tie as tie
 
 returns : tie.Need-returns
 unfolding step
-returns c = rw (lt_ltb _ _ c.if1.true)
+returns c = rw (lt-ltb _ _ c.if1.true)
 
 end-of-requires : tie.Need-end-of-requires
 end-of-requires c κs = search rules
@@ -43,7 +43,7 @@ digit-requires c κs = omega (arith, c.before.if3.false, c.if4.false)
 
 returns-5 : tie.Need-returns-5
 unfolding step
-returns-5 c = rw (le-ltb _ _ c.before.before.before.before.before.before.if1.false, ← c.before.before.before.before.before.end_of_lem.ensures, ne_eqb _ _ c.before.before.before.before.if2.false, le-leb _ _ c.before.before.if3.false, lt_ltb _ _ c.before.if4.false) c.digit.ensures
+returns-5 c = rw (le-ltb _ _ c.before.before.before.before.before.before.if1.false, ← c.before.before.before.before.before.end_of_lem.ensures, ne_eqb _ _ c.before.before.before.before.if2.false, le-leb _ _ c.before.before.if3.false, lt-ltb _ _ c.before.if4.false) c.digit.ensures
 
 pub step_spec : {M : Type 1} → statement M
 step_spec =

@@ -1,7 +1,7 @@
 -- Generated from the answers file beside it by tools/prove/prove.py: edit that.
 -- `text_tiles::write::figure` meets its contract.
 use native.Mathlib.Omega.{arith}
-use borrow.Author.Tests.{lt_ltb, le-ltb, eq-eqb, ne_eqb}
+use borrow.Author.Tests.{lt-ltb, le-ltb, eq-eqb, ne_eqb}
 use Rattle.text_tiles_definition.specs.Report.{figure}
 use Rattle.text_tiles.proofs.write.figure.Statement.{statement}
 use Rattle.text_tiles.proofs.write.figure.Tie as tie
@@ -21,7 +21,7 @@ array-read-result c = omega arith
 
 returns-2 : tie.Need-returns-2
 unfolding figure
-returns-2 c = rw (ne_eqb _ _ c.before.before.if1.false, lt_ltb _ _ c.before.if2.true)
+returns-2 c = rw (ne_eqb _ _ c.before.before.if1.false, lt-ltb _ _ c.before.if2.true)
 
 returns-3 : tie.Need-returns-3
 unfolding figure
