@@ -1,6 +1,6 @@
 # make               the archive and the header into dist/: proves the crate crewelmarsh and what it uses, no program and no must-fail edit
-# make test          the gate, what .ci/run calls: what is quick to look at; rt ci, which proves everything from nothing; over what it proved
-#                    the archive, the C tests, the example. rt's line, 'N passed, 0 failed', is the last, if all of it passed
+# make test          the gate, what .ci/run calls: what is quick to look at; a plain rt ci, which proves everything that it has not passed on this machine as it
+#                    stands; over what it proved the archive, the C tests, the example. rt's line, 'N passed, 0 failed', is the last, if all of it passed
 # make example       the examples in C, built and run: a codec, a decode loop, one that keeps 8 of 256 components
 # make example-openjpeg
 #                    a hyperspectral codec over OpenJPEG, where Debian's libopenjp2-7-dev is there (examples/spectral)
@@ -8,8 +8,7 @@
 #                    docs/believe.txt is that text, and the gate holds the tree to it (tools/believe.mk). CALL=svd prints what stands behind that call
 # make book          the definitions beside document 000, as pages to read, into build/book (tools/book.mk)
 # make install       archive, shared library, header and the rest under PREFIX; make release packs them (tools/install.mk)
-# make edits-all     the must-fail edits that the gate leaves out (edits/)
-# make proofs-fresh  whether each generated Proof.antt is what tools/prove/prove.py writes today
+# make edits-all     the must-fail edits that the gate leaves out (edits/); EDITS='root svd' those of these crates
 # make compare       fresh random cases against the Rust oracle: SEED=.. CASES=..
 # make gain         random matrices times powers of two, every operation of document 000's svd watched: SEED=.. CASES=..
 # make compare-covariance
@@ -19,7 +18,7 @@
 # make bench-worst   how long a call takes on bad input, on x86-64
 # make gate-test     that the gate can't be told to pass
 # make proofs-lazy   versions that do less work than document 000, definition, code and proof alike: a computed row must refuse each (tests/lazy)
-.PHONY: all test gate-test fmt kit edits-all proofs-lazy proofs-fresh clean
+.PHONY: all test gate-test kit edits-all proofs-lazy clean
 
 override SHELL := /bin/sh
 
@@ -41,22 +40,15 @@ test:
 gate-test:
 	@sh tests/gate.sh
 
-fmt:
-	@$(RT) fmt --check
-
-# tools/kit has a line for each toolchain that the proofs were tried with; KIT_ANY=1 takes another one.
+# tools/kit has the line of the toolchain that the proofs were tried with; KIT_ANY=1 takes another one.
 kit:
 	@RT='$(RT)' sh tools/kit.sh
 
 edits-all: kit
-	@RT='$(RT)' sh tools/edits-all
+	@RT='$(RT)' sh tools/edits-all $(EDITS)
 
 proofs-lazy: kit
 	@RT='$(RT)' sh tests/lazy.sh $(LAZY)
 
-proofs-fresh: kit
-	@command -v python3 >/dev/null || { echo 'proofs-fresh: there is no python3 here'; exit 1; }
-	@python3 tools/prove/fresh.py $(CRATES)
-
 clean:
-	rm -rf target dist build oracle/target
+	rm -rf crates/*/out dist build oracle/target

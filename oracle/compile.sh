@@ -3,8 +3,7 @@
 set -e
 module=$1 object=$2
 machine=${MACHINE:-$(uname -m)}
-kit=$(dirname "$(dirname "$(rt doc)")")
-clang=$kit/on/$(uname -m)/toolchain/bin/clang
+clang=$(dirname "$(rt doc)")/toolchain/bin/clang
 if [ "$machine" != x86_64 ]; then
     layout='e-m:e-p270:32:32-p271:32:32-p272:64:64-i8:8:32-i16:16:32-i64:64-i128:128-n32:64-S128-Fn32'
     sed -i -e "s/^target datalayout = .*/target datalayout = \"$layout\"/" \

@@ -1,28 +1,19 @@
 #!/bin/sh
-# module.sh FOLDER COMMAND..: the module that the kit's clang compiles at -O3 while COMMAND runs, as text, into FOLDER/module.ll. For measuring alone.
+# module.sh FOLDER CRATE: the module that the kit's clang compiles at -O3 for that crate, as text, into FOLDER/module.ll. For measuring alone.
 set -e
-place=$1
-shift
-kit=$(dirname "$(dirname "$(rt doc)")")
-own=$(uname -m)
-clang=$kit/on/$own/toolchain/bin/clang
+place=$1 crate=$2
+toolchain=$(dirname "$(rt doc)")/toolchain
+clang=$toolchain/bin/clang
 rm -rf "$place"
-mkdir -p "$place"
+mkdir -p "$place/toolchain/bin"
 place=$(cd "$place" && pwd)
 
-# The kit by links, but for its clang, which keeps the module that it is handed.
-shadow() { # FOLDER LEFT-OUT: links to what the kit's folder has, but for one name
-    mkdir -p "$place/home/$1"
-    for file in "$kit/$1"/*; do
-        [ "$(basename "$file")" = "$2" ] || ln -s "$file" "$place/home/$1/"
-    done
-}
-shadow . on
-shadow on "$own"
-shadow "on/$own" toolchain
-shadow "on/$own/toolchain" bin
-shadow "on/$own/toolchain/bin" clang
-cat >"$place/home/on/$own/toolchain/bin/clang" <<WRAPPER
+# The toolchain by links, but for its clang, which keeps the module that it is handed.
+ln -s "$toolchain/lib" "$place/toolchain/lib"
+for file in "$toolchain"/bin/*; do
+    [ "$(basename "$file")" = clang ] || ln -s "$file" "$place/toolchain/bin/"
+done
+cat >"$place/toolchain/bin/clang" <<WRAPPER
 #!/bin/sh
 case " \$* " in *" -O3 "*)
     for word; do
@@ -31,7 +22,10 @@ case " \$* " in *" -O3 "*)
 esac
 exec "$clang" "\$@"
 WRAPPER
-chmod +x "$place/home/on/$own/toolchain/bin/clang"
-RATTLE_HOME=$place/home "$@" >"$place/log" 2>&1 || { cat "$place/log"; exit 1; }
+chmod +x "$place/toolchain/bin/clang"
+
+# What the crate uses is proved and built first, where it has changed.
+(cd "crates/$crate" && rt check) >"$place/log" 2>&1 || { cat "$place/log"; exit 1; }
+sh tools/rattle.sh "$crate" build --cpu=x86-64 --toolchain "$place/toolchain" --backend llvm -o "$place/built" >"$place/log" 2>&1 || { cat "$place/log"; exit 1; }
 
 "$clang" --no-default-config -x ir -S -emit-llvm -O0 -Xclang -disable-llvm-passes "$place/module.bc" -o "$place/module.ll"

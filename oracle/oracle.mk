@@ -94,11 +94,14 @@ compare: $(ORACLE)/oracle build/tests/runner compare-hypot
 # Said with them: of how many the platform's hypot gives other bits.
 PAIRS ?= 2000000
 
-target/bin/test_vectors: $(CRATE_FILES)
-	$(RT) check test_vectors
+VECTORS := crates/test_vectors/out/test_vectors
 
-compare-hypot: $(ORACLE)/oracle target/bin/test_vectors
-	$(ORACLE)/oracle hypots $(SEED) $(PAIRS) | split -l 1900 --filter='$(RUN) target/bin/test_vectors' >$(ORACLE)/hypots
+$(VECTORS): $(CRATE_FILES)
+	cd crates/test_vectors && $(RT) run <stdin >/dev/null
+	touch $@
+
+compare-hypot: $(ORACLE)/oracle $(VECTORS)
+	$(ORACLE)/oracle hypots $(SEED) $(PAIRS) | split -l 1900 --filter='$(RUN) $(VECTORS)' >$(ORACLE)/hypots
 	$(ORACLE)/oracle hypots-wanted $(SEED) $(PAIRS) | cmp - $(ORACLE)/hypots
 	@echo "hypot, edition 2: $$(wc -l <$(ORACLE)/hypots) pairs, none differs"
 	$(ORACLE)/oracle hypots-platform $(SEED) $(PAIRS)

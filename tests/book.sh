@@ -38,7 +38,7 @@ refused 'a definition without lines or a reason' 'Order.antt: rank stands for no
 refused 'a reason where there are lines' "map.txt:$end: reflect has lines already" '' "new part ${reflect% *} reflect"
 refused 'a reason twice' "map.txt:$end: rank has a reason already" '' "$(grep '^new library .*Order.antt rank$' $map)"
 refused 'a kind that is not there' "map.txt:$end: there is no kind other" '' "new other ${reflect% *} reflect"
-refused 'a theorem that is not there' 'map.txt:[0-9]*: there is no theorem split-was' 's/ split-is / split-was /'
+refused 'a theorem that is not there' 'map.txt:[0-9]*: there is no theorem split_was' 's/ split_is / split_was /'
 refused 'a line of no sense' "map.txt:$end: not understood: document_001.rs" '' 'document_001.rs 1 a b'
 refused 'an empty map' 'src/document_000.rs:29: claimed by no definition' d
 

@@ -6,6 +6,7 @@
 #   a  a check behind rt ci fails, for every archive but other.a
 #   k  rt is none of tools/kit
 #   r  rt ci fails, unless something of the environment reaches it
+#   b  rt ci passes, with a bad edit
 #   o  a gate of the old style, which takes its lists and programs from make: this one the way does tell to pass, where the letter stands, else the ways would show nothing
 #
 # The trees have this one's Makefile, without what it includes, and every target that the gate names passes there but the one that fails. A makefile that writes the line itself
@@ -66,8 +67,8 @@ ca    sh tools/gate.sh kit -- kit
 WAYS
 }
 
-# A stand-in for rt, which proves nothing: rt ci, behind what is given, comes to the number that tools/counts has.
-stand_in() { # VERSION BEFORE-CI
+# A stand-in for rt, which proves nothing: rt ci, behind what is given, comes to the numbers that tools/counts has.
+stand_in() { # VERSION BEFORE-CI BAD
     cat <<RT
 #!/bin/sh
 case \${1:-} in
@@ -75,8 +76,8 @@ version) $1 ;;
 doc) echo "\$0" ;;
 ci)
     $2
-    awk '/^edits / { for (i = 1; i <= \$2; i++) print "rt: must-fail some/edit: refused, as it must be" }
-        /^(crates|edits) / { n += \$2 } END { print n " passed, 0 failed" }' tools/counts
+    awk '/^edits / { edits = \$2 } /^(crates|edits) / { n += \$2 }
+        END { print "rt: ok; handles allowed: none; must-fail edits: " edits " refused${3:-}; all done in this run"; print n " passed, 0 failed" }' tools/counts
     ;;
 esac
 RT
@@ -84,7 +85,7 @@ RT
 
 # A tree in which each target that the gate names passes, but counts-check, which looks at the tree, and boundary by its recipe.
 names=$(sed -n "s/^QUICK='\(.*\)'\$/\1/p; s/^REST='\(.*\)'\$/\1/p" tools/gate.sh | tr '\n' ' ')
-plant() { # TREE COUNTS-CHECK BOUNDARY VERSION BEFORE-CI
+plant() { # TREE COUNTS-CHECK BOUNDARY VERSION BEFORE-CI [BAD]
     mkdir "$work/$1" && cd "$work/$1" && cp -R "$tree/.ci" "$tree/tools" . || exit 2
     {
         sed '/^include /d; /^gate-test:/,/^$/d' "$tree/Makefile"
@@ -102,17 +103,18 @@ plant() { # TREE COUNTS-CHECK BOUNDARY VERSION BEFORE-CI
     # what a way may find
     mkdir bin elsewhere elsewhere/tools
     stand_in 'head -n 1 tools/kit' : >yes
-    stand_in "$1" "$2" >bin/rt
+    stand_in "$1" "$2" "${3:-}" >bin/rt
     chmod +x yes bin/rt
     : >other.a
     echo 'echo "1 passed, 0 failed"' >elsewhere/tools/gate.sh
     printf 'override %s\n' 'QUICK :=' 'GATE :=' 'REST :=' 'MAKE := true' 'RT := ./yes' 'ARCHIVE := other.a' 'KIT_ANY := 1' >vars.mk
     { echo 'include Makefile'; cat vars.mk; printf '%s:\n\t@:\n' counts-check boundary check; } >over.mk # its rules are the later ones
 }
-(plant c 'sh tools/counts.sh' : 'head -n 1 tools/kit' : && cp -R "$tree/crates.txt" "$tree/crates" "$tree/include" "$tree/edits" . && mkdir tests && cp -R "$tree/tests/lazy" tests)
+(plant c 'sh tools/counts.sh' : 'head -n 1 tools/kit' : && cp -R "$tree/crates.txt" "$tree/include" "$tree/edits" . && (cd "$tree" && find crates -name out -prune -o -type f -print | tar -c -T - -f -) | tar -x -f - && mkdir tests && cp -R "$tree/tests/lazy" tests)
 (plant a : '[ $(ARCHIVE) = other.a ]' 'head -n 1 tools/kit' :)
 (plant k : : 'echo rattle-kit-0 logic 0' :)
 (plant r : : 'head -n 1 tools/kit' '[ -n "${RATTLE_HOME:-}${RT:-}${MAKEFLAGS:-}${MAKEFILES:-}" ] || { echo "4 passed, 1 failed"; exit 1; }')
+(plant b : : 'head -n 1 tools/kit' : ', 1 bad')
 (
     plant o : : 'head -n 1 tools/kit' :
     cat >Makefile <<'OLD'
@@ -146,8 +148,8 @@ for way in 'make test' .ci/run; do
     told c "$way" || wrong "where nothing is wrong, $way does not write the line"
 done
 awk '$1 == "crates" { $2++ } { print }' "$tree/tools/counts" >"$work/c/tools/counts"
-for one in 'c counts-check' 'a boundary' 'k kit' 'r rt ci'; do
-    told "${one%% *}" .ci/run
+for one in 'c counts-check' 'a boundary' 'k kit' 'r rt ci' 'b rt ci'; do
+    ! told "${one%% *}" .ci/run || wrong "the tree ${one%% *} passes"
     grep -q "^gate: FAILED: ${one#* } " "$work/${one%% *}/out" || wrong "the tree ${one%% *} does not fail at ${one#* }"
 done
 

@@ -1,5 +1,5 @@
-# The C side: the archive, the example and the test of the boundary, with the toolchain alone. Programs are
-# x86-64; where the machine is not, the toolchain has an emulator and they run under it.
+# The C side: the archive, the example and the test of the boundary, with the toolchain alone. The toolchain and
+# the programs are for x86-64 alone.
 #
 #   make archive       dist/libcrewelmarsh.a and dist/crewelmarsh.h, with LICENSE and NOTICE
 #   make example       builds and runs examples/codec.c, examples/decoder.c and examples/components.c
@@ -10,20 +10,16 @@
 # ARCHIVE=PATH tests another archive with the same entries.
 
 RT ?= rt
-KIT ?= $(shell dirname "$$(dirname "$$($(RT) doc)")")
-OWN = $(KIT)/on/$(shell uname -m)
-TOOLCHAIN = $(OWN)/toolchain
+KIT ?= $(shell dirname "$$($(RT) doc)")
+TOOLCHAIN = $(KIT)/toolchain
 CLANG = $(TOOLCHAIN)/bin/clang
 LIBRARY = $(TOOLCHAIN)/lib
-EMULATOR = $(wildcard $(TOOLCHAIN)/bin/qemu-x86_64)
-LINK = $(OWN)/bin/rattle-link --target x86_64-unknown-linux-gnu --toolchain $(TOOLCHAIN)
-RUN = $(EMULATOR) $(LIBRARY)/ld-linux-x86-64.so.2 --library-path $(LIBRARY)
+LINK = $(KIT)/bin/rattle-link --target x86_64-unknown-linux-gnu --toolchain $(TOOLCHAIN)
+RUN = $(LIBRARY)/ld-linux-x86-64.so.2 --library-path $(LIBRARY)
 
-# rt staticlib proves its crate anew at each call, and what the crate uses only where that has changed since it was last proved. So it is
-# asked only where a file has changed. It proves one crate after another, rt check several at a time: what the crate uses is left to that, where rt ci has not
-# proved it.
-CRATE_FILES := $(shell find crates -name must-fail -prune -o -type f -print)
-ARCHIVE_USES = $(shell sed -n 's/^crewelmarsh: *//p' crates.txt)
+# rt lib proves its crate anew at each call, and what the crate uses only where that has changed since it was last built. So it is
+# asked only where a file has changed.
+CRATE_FILES := $(shell find crates \( -name must-fail -o -name out \) -prune -o -type f -print)
 ARCHIVE ?= dist/libcrewelmarsh.a
 
 # The version and the entries' names in the archive, as the header has them.
@@ -48,16 +44,17 @@ C99 = $(CLANG) $(TARGET_FLAGS) $(WARNINGS) -std=c99
 CPLUSPLUS = $(CLANG) $(TARGET_FLAGS) $(WARNINGS) -x c++ -std=c++98
 HEADERS := include/crewelmarsh.h $(wildcard tools/headers/*.h)
 
-.PHONY: archive parts example example-test boundary boundary-names boundary-machine boundary-header boundary-run boundary-list FORCE
+.PHONY: archive archive-of-ci parts example example-test boundary boundary-names boundary-machine boundary-header boundary-run boundary-list FORCE
 
 archive: dist/libcrewelmarsh.a dist/crewelmarsh.h dist/LICENSE dist/NOTICE
 
 dist/libcrewelmarsh.a: crates.txt $(CRATE_FILES)
 	@RT='$(RT)' sh tools/kit.sh
-	@[ -e target/stamp/crewelmarsh ] || $(RT) check $(ARCHIVE_USES)
-	$(RT) staticlib crewelmarsh
-	@mkdir -p dist
-	cp target/staticlib/libcrewelmarsh.a $@
+	@RT='$(RT)' sh tools/archive.sh
+
+# In the gate, behind its rt ci: of the libraries that this proved.
+archive-of-ci:
+	@RT='$(RT)' sh tools/archive.sh build/gate.log.began
 
 dist/crewelmarsh.h: include/crewelmarsh.h
 	@mkdir -p dist

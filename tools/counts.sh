@@ -5,7 +5,7 @@
 #   edits            must-fail edits, where rt looks for them
 #   entries          `extern "C"` functions of the crate crewelmarsh, and names of the header
 #   safety-only      `pub` functions of any crate with no `ensures`: docs/PROMISES.md names them
-#   labels           theorems: the different N of the statements tN-NAME of the crate promises
+#   labels           theorems: the different N of the statements tN_NAME of the crate promises, in specs/ or in proofs/
 #   statements       those statements
 #   boundary-checks  what the C tests ran, machine-checks what tests/machine ran, list-cases the cases of lanczos' list: tools/c.mk holds the runs to them
 #   edits-outside    edits that the gate leaves out, edits/
@@ -21,9 +21,13 @@ holds() { # NAME FOUND
     status=1
 }
 
-# The statements, of the files that Lib.antt declares: rt looks at no other.
-declared() { sed -n 's|^pub mod \(.*\)|crates/promises/specs/\1.antt|p' crates/promises/specs/Lib.antt; }
-statements() { declared | xargs sed -n 's/^pub \(t[0-9][0-9]*\)-[^ ]* :.*/\1/p'; }
+# The statements, of the files that the Lib.antt of specs/ and of proofs/ declare: rt looks at no other.
+declared() {
+    for place in crates/promises/specs crates/promises/proofs; do
+        [ ! -f $place/Lib.antt ] || sed -n "s|^pub mod \([A-Za-z_0-9]*\).*|$place/\1.antt|p" $place/Lib.antt
+    done
+}
+statements() { declared | xargs sed -n 's/^pub \(t[0-9][0-9]*\)_[^ ]* :.*/\1/p'; }
 
 holds crates "$(grep -c '^[A-Za-z_]' crates.txt)"
 holds edits "$(ls crates/*/must-fail/*.edit | wc -l | tr -d ' ')"

@@ -5,7 +5,7 @@
 #   make release         the same files in dist/crewelmarsh-VERSION-x86_64-linux.tar, with checksums and what they were built from
 #   make install-test    all of that tried in a scratch folder with gcc, g++, pkg-config and cmake (GCC, GXX and RUNNER elsewhere than on x86-64), and archive-again (not with AGAIN=0)
 #
-#   make archive-again   the archive built once more from a copy of this tree in another folder, and compared (FRESH=1 proves everything there from nothing)
+#   make archive-again   the archive built once more from a copy of its crates in another folder, and compared (FRESH=1 proves everything there from nothing)
 #
 # PREFIX=/usr/local  where the files will stand; LIB=lib is the libraries' folder in it, of one part or several.
 # DESTDIR=DIR        is put before PREFIX while copying, for making a package.

@@ -2,13 +2,13 @@
 #
 #   make example-openjpeg   builds examples/spectral and runs it; what doesn't depend on OpenJPEG is held to spectral.expected
 #   make openjpeg           fetches Debian's libopenjp2-7-dev for amd64 into build/openjpeg, on any machine with Debian's apt; nothing is installed
-#   make spectral-picture   its README's picture from a run of 64 bands (some minutes under the emulator; needs python3)
+#   make spectral-picture   its README's picture from a run of 64 bands (needs python3)
 #
 # GCC is a gcc for x86-64, RUNNER what its programs run under, as in install-test; if they aren't given, gcc, elsewhere than on x86-64 Debian's
-# x86_64-linux-gnu-gcc and the toolchain's emulator.
+# x86_64-linux-gnu-gcc, and nothing.
 
 SPECTRAL_GCC = $(or $(GCC),$(if $(filter x86_64,$(shell uname -m)),gcc,x86_64-linux-gnu-gcc))
-SPECTRAL = $(or $(RUNNER),$(if $(EMULATOR),$(RUN))) build/spectral/spectral
+SPECTRAL = $(RUNNER) build/spectral/spectral
 
 .PHONY: example-openjpeg openjpeg openjpeg-found spectral-picture
 

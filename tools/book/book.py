@@ -50,14 +50,14 @@ class Book:
         for p in self.pages:
             p.starts = [f for c in p.c for name, f in functions.items() if re.fullmatch(f"crewelmarsh::crewelmarsh_{c}_abi\\d+", name)]
             p.starts += [functions[x] for x in p.rattle if x in functions or fault(f"{PAGES}: [{p.slug}]: there is no function {x}: give its name of now")]
-            p.stated = [d for n, d in stated if {d.module, f"{d.module}:T{n}"} & set(p.theorems)]
+            p.stated = [d for n, d in stated if {d.module.split("/")[-1], f"{d.module.split('/')[-1]}:T{n}"} & set(p.theorems)]
             p.defs = t.reach(p.starts)
             p.words = [d for d in t.reach(x for d in p.stated for x in t.named(d)) if d not in p.defs]
             p.links = set(p.defs + p.words)
             self.on = {**{d: p for d in p.links}, **self.on}
         for f in t.functions:
             for d in t.named(f):
-                other = not re.search(r"≡ \(*" + re.escape(d.name) + r"[ )⌝]", " ".join(f.says()))
+                other = not re.search(r"≡ \(*" + re.escape(d.name) + r"[ )}]", " ".join(f.says()))
                 self.cited[d] = sorted(self.cited.get(d, []) + [(other, f)], key=lambda x: x[0])
 
     def linked(self, d, lines, page):

@@ -2,9 +2,9 @@
 They are cut as tools/believe cuts them, and names are followed as it follows them."""
 import re
 
-def plain(name): return name[1:-1] if len(name) > 2 and name[0] == name[-1] == "_" else name  # `_⊕_` is used as `⊕`
+def plain(name): return name.replace("◌", "") or name  # `◌⊕◌` is used as `⊕`
 def module_of(path): return path.stem if path.parts[-2] == "specs" else f"{path.parts[-2]}/{path.stem}"
-def words(line): return [w for w in re.split(r"[(){},; ]+", re.sub(r" -- .*", "", line)) if w]
+def words(line): return [w for w in re.split(r"[(){},; ]+", re.sub(r" -- .*|^ *(requires|ensures)( \w+)? (?={)", "", line)) if w]
 
 # a function, struct or enum of src/, up to the } that stands as far in as it does
 ITEM = (r'(?P<comment>(?:^ *(?://|#\[).*\n)*)^(?P<text>(?P<in> *)(?:pub )?(?:(?:extern "C" )?(?P<fn>fn \w+)|(?:struct|enum) (?P<type>\w+))'
@@ -16,7 +16,7 @@ class Decl:
         self.crate, self.module, self.name, self.kind, self.comment, self.text = path.parts[-3], module_of(path), name, kind, comment, text
         self.file, self.key = "/".join(path.parts[-3:]), (self.crate, self.module, plain(name))
         self.id = re.sub(r"[^\w-]", lambda m: "-" if m[0] in ". /" else "u%x" % ord(m[0]), "-".join(self.key), flags=re.A)
-        self.label = re.match(r"t(\d+)-", name) if self.crate == "promises" else None  # of a theorem
+        self.label = re.match(r"t(\d+)_", name) if self.crate == "promises" else None  # of a theorem
         self.home = self.fixity = self.new = self.note = ""
         self.lines, self.ties = [], []
 
@@ -50,7 +50,7 @@ class Tree:
     def __init__(self, root, more):
         self.decls, self.imports, self.uses, self.wings, self.refs, self.bounds = {}, {}, {}, {}, {}, {}
         for line in (root / "crates.txt").read_text().splitlines():
-            wing, crate = re.match(r"# (\w[\w ]*): (.*)", line), re.match(r"(\w+):(.*)", line)
+            wing, crate = re.match(r"# (\w[\w ]*): (.*)", line), re.match(r"(\w+)(?: staticlib)?:(.*)", line)
             if wing and "NAME" not in line:
                 self.wings[wing[1]] = wing[2], []
             elif crate:
@@ -58,18 +58,20 @@ class Tree:
                 self.wings.setdefault(next(reversed(self.wings), "crates"), ("", []))[1].append(crate[1])
         for crate in self.uses:
             base = root / "crates" / crate
-            for folder, lib, cut in (("src", "lib.rt", self.source), ("specs", "Lib.antt", self.spec)):
+            for folder, lib, cut in (("src", "lib.rt", self.source), ("specs", "Lib.antt", self.spec), ("proofs", "Lib.antt", self.spec)):
+                if folder == "proofs" and crate != "promises":  # of others those files alone that something names
+                    continue
                 if (base / folder / lib).exists():
                     cut(base / folder / lib)
                     for module in re.findall(r"^(?:pub )?mod (\w+)", (base / folder / lib).read_text(), re.M):
                         cut(base / folder / (module + lib[3:]))
-        for file in dict.fromkeys([f"{crate}/{module}.antt" for crate, module, *_ in self.imports.values() if module.startswith("proofs/")] + more):
+        for file in dict.fromkeys([f"{crate}/{module}.antt" for crate, module, *_ in self.imports.values() if module.startswith("proofs/") and crate in self.uses] + more):
             self.spec(root / "crates" / file)
         self.functions = [d for d in self.decls.values() if d.kind == "fn"]
 
     def use(self, line, here):
         """An import: names of a file of specs/ or of another crate's proofs/, of a type of src/, or a whole file under another name."""
-        m = re.match(r"(?:ghost )?use Rattle·([^.·]+)(?:·specs)?\.(?:specs\.|(?=proofs))([\w.]+?)(?:\.\{(.*)\}| as (\w+))", line)
+        m = re.match(r"(?:ghost )?use Rattle\.(\w+)\.(?:specs\.|(?=proofs))([\w.]+?)(?:\.\{(.*)\}| as (\w+))", line)
         if m and m[4]:
             self.imports[here + (m[4] + ".",)] = m[1], m[2]
         elif m:
@@ -123,6 +125,8 @@ class Tree:
         alias = re.match(r"(\w+\.)(.+)", word)
         if alias and here + (alias[1],) in self.imports:
             return self.decls.get(self.imports[here + (alias[1],)] + (alias[2],))
+        if alias:  # a field of something
+            return self.resolve(d, alias[1][:-1])
         own = self.decls.get(here + (word,)) if d.kind not in ("fn", "struct") else None
         return next((x for x in (own, self.decls.get(self.imports.get(here + (word,)))) if x and x is not d), None)
 

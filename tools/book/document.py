@@ -104,6 +104,6 @@ def worked(tree, name):
     kind = next(l for d in tree.decls.values() if (d.name, d.kind) == ("Row", "data") for l in d.text if l.split()[0] == name)
     head = ["answer array" if (n, many) == ("answer", "List") else "answer" if n == "number" else "steps" if (name, n) == ("steps", "k") else n
             for names, many in re.findall(r"\(([^:()]*) : (List)?", kind) for n in names.split()]
-    found = [(d, m[1]) for d in tree.decls.values() if (d.crate, d.module) == ("promises", "Worked")
+    found = [(d, m[1]) for d in tree.decls.values() if d.crate == "promises" and d.module in ("Worked", "proofs/Worked")
              for l in d.stated() for m in [re.match(rf"\s*(?:∷|\()\s*{name} (.*)", l)] if m]
     return [list(zip(head, (value(d, x) for x in re.findall(r"\([^)]*\)|[^\s()]+", text)))) for d, text in found]

@@ -2,11 +2,9 @@
 pub mod Answers
 pub mod AnswersLaws
 pub mod Early
-pub mod OutcomeLaws
 pub mod Index
 pub mod IndexLaws
 -- The checks that several calls share.
 pub mod Checks
 pub mod ChecksLaws
 pub mod ToleranceLaws
-pub mod EditionLaws

@@ -1,4 +1,6 @@
 // What a call comes back with, and the length of an svd result.
+#![tactic(auto)]
+
 pub mod checks; // The checks that several calls share
 
 ghost use Rattle.std.specs.Prelude.{◌≡◌, ◌≤◌};
@@ -9,7 +11,7 @@ use leaves::Bad;
 
 // The four numbers: answer is 0 where the call is done, else the refusal.
 #[repr(C)]
-#[derive(Drop)]
+#[derive(Clone, Copy)]
 pub struct Answer {
     pub answer: usize,
     pub place: usize,

@@ -1,4 +1,6 @@
 // The reader's check of a transform block: rows, columns and up to three parts of doubles, in one block of big-endian bytes.
+#![tactic(auto)]
+
 pub mod lookup; // What is in a transform block: where its parts stand, the part of a kind from the tile's own block or the main one, and its numbers as doubles
 
 ghost use Rattle.std.specs.Prelude.{◌≡◌, ◌+◌, ◌*◌, ◌≤◌, length};

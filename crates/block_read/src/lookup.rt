@@ -9,7 +9,7 @@ use answers::{Answer, answered, done, refused};
 use octets::{floats, number};
 
 // What a block holds: where each part starts and how many numbers it has, both 0 where it is absent. Of a refused block only the answer is not 0.
-#[derive(Drop)]
+#[derive(Clone, Copy)]
 pub struct Block {
     pub answer: Answer,
     pub rows: usize,
@@ -24,7 +24,7 @@ pub struct Block {
 
 // The same in four numbers, for a caller in C: the answer, rows, columns, how many parts.
 #[repr(C)]
-#[derive(Drop)]
+#[derive(Clone, Copy)]
 pub struct Shape {
     pub answer: usize,
     pub rows: usize,
@@ -33,7 +33,7 @@ pub struct Shape {
 }
 
 // A part's start and end in its block.
-#[derive(Drop)]
+#[derive(Clone, Copy)]
 pub enum Span {
     At(usize, usize),
     Missing,
@@ -41,7 +41,7 @@ pub enum Span {
 
 // A part by its numbers: the block, 1 the tile's own, 2 the main one, its start there, how many doubles, the block's shape, or all 0; then the answer for each block.
 #[repr(C)]
-#[derive(Drop)]
+#[derive(Clone, Copy)]
 pub struct Found {
     pub block: usize,
     pub start: usize,

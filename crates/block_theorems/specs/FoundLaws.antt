@@ -6,7 +6,7 @@ use Rattle.answers.specs.Answers.{answered, refused}
 use Rattle.answers.specs.declared.Answer.{Answer}
 use Rattle.octets.specs.Bytes.{words_bytes, num, words_at, Bytes}
 use Rattle.octets.specs.Bits.{float}
-use Rattle.octets.specs.BytesLaws.{words_spelled, words_bound, words_taken, words_bytes_length}
+use Rattle.octets.proofs.BytesLaws.{words_spelled, words_bound, words_taken, words_bytes_length}
 use Rattle.block_read.specs.Content.{Part, Words, size}
 use Rattle.block_read.specs.Reading.{entry_answer, entries, answer_of, parts_at, good, reading}
 use Rattle.block_read.specs.Reading as reads

@@ -6,7 +6,7 @@ use Rattle.std.proofs.Math.Seq.{drop-length}
 use Rattle.answers.specs.Answers.{done, refused}
 use Rattle.answers.specs.declared.Answer.{Answer}
 use Rattle.octets.specs.Bytes.{three, words_bytes, num, words_at, Bytes}
-use Rattle.octets.specs.BytesLaws.{parts, front, take_two, part_length, three_length, three_spelled, Three, three_taken, words_bytes_length, words_at_length, words_spelled, words_bound, words_taken}
+use Rattle.octets.proofs.BytesLaws.{parts, front, take_two, part_length, three_length, three_spelled, Three, three_taken, words_bytes_length, words_at_length, words_spelled, words_bound, words_taken}
 use Rattle.block_read.specs.Content.{Part, size, Parts, Content, heads, entries_bytes, numbers_bytes, block_of}
 use Rattle.block_read.specs.Reading.{dimensions, head_answer, entry_answer, entries, behind, answer_of, parts_at, good, reading}
 use Rattle.block_read.specs.Reading as reads

@@ -3,7 +3,7 @@ use Rattle.std.specs.Prelude.{◌≡◌, List, ℕ}
 use Rattle.grid.specs.Real.{Vec}
 use Rattle.answers.specs.Answers.{refused}
 use Rattle.answers.specs.declared.Answer.{Answer}
-use Rattle.answers.specs.OutcomeLaws.{one_outcome}
+use Rattle.answers.proofs.OutcomeLaws.{one_outcome}
 use Rattle.block_read.specs.Content.{Part}
 use Rattle.block_read.specs.Reading.{answer_of}
 use Rattle.block_read.specs.Held.{block_read, shape_of}

@@ -16,8 +16,8 @@ use Rattle.octets.specs.Bits.{bits}
 use Rattle.answers.specs.Answers.{done, refused}
 use Rattle.answers.specs.declared.Answer.{Answer}
 use Rattle.octets.specs.Bytes.{three, words_bytes}
-use Rattle.octets.specs.BytesLaws.{three_length, words_bytes_length}
-use Rattle.octets.specs.StoreLaws.{put_both, put_whole}
+use Rattle.octets.proofs.BytesLaws.{three_length, words_bytes_length}
+use Rattle.octets.proofs.StoreLaws.{put_both, put_whole}
 use Rattle.block_read.specs.Content.{Part, size, heads, entries_bytes, numbers_bytes, block_of}
 use Rattle.block_read.specs.Reading.{or_else, dimensions, head_answer}
 use Rattle.block_read.specs.CheckLaws.{Sized, size_most, or_else_lem, dimensions_good, head_good}

@@ -1,4 +1,6 @@
 // The writer of a transform block, from bits and from doubles, and the length of a block.
+#![tactic(auto)]
+
 mod put_entries; // The entries of a transform block, written
 
 ghost use Rattle.std.specs.Prelude.{◌≡◌, ◌+◌, ◌*◌, ◌≤◌, length};

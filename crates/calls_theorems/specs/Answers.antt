@@ -12,11 +12,11 @@ use Rattle.solve.specs.Solution.{solution}
 use Rattle.solve.specs.PseudoInverse.{inverted}
 use Rattle.solve.specs.Solve.{solve, pseudo_inverse}
 use Rattle.solve.specs.WithoutToleranceCheck.{solve_before, pseudo_inverse_before}
-use Rattle.solve.specs.Tolerance.{solve_tolerance_zero, pseudo_inverse_tolerance_zero, solve_as_before, pseudo_inverse_as_before}
+use Rattle.solve.proofs.Tolerance.{solve_tolerance_zero, pseudo_inverse_tolerance_zero, solve_as_before, pseudo_inverse_as_before}
 use Rattle.solve.specs.Index as Solve
-use Rattle.solve.specs.IndexLaws.{solve_index_points, solve_index_zero, pseudo_inverse_index_points, pseudo_inverse_index_zero}
-use Rattle.solve.specs.Result.{solve_finite_out, pseudo_inverse_finite_out}
-use Rattle.solve.specs.OldContents.{solve_old_contents, pseudo_inverse_old_contents}
+use Rattle.solve.proofs.IndexLaws.{solve_index_points, solve_index_zero, pseudo_inverse_index_points, pseudo_inverse_index_zero}
+use Rattle.solve.proofs.Result.{solve_finite_out, pseudo_inverse_finite_out}
+use Rattle.solve.proofs.OldContents.{solve_old_contents, pseudo_inverse_old_contents}
 use Rattle.qr_q.specs.QrQ.{qr_q}
 use Rattle.qr_q.specs.Index as Qr
 use Rattle.qr_q.specs.IndexLaws.{qr_q_index_points, qr_q_index_zero}

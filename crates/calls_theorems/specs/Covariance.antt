@@ -6,10 +6,7 @@ use Rattle.grid.specs.Cell.{entry}
 use Rattle.grid.specs.CellLaws.{cell}
 use Rattle.leaves.specs.Finite.{Finite}
 use Rattle.answers.specs.declared.Answer.{Answer}
-use Rattle.eigen_symmetric_eigen.specs.SymmetricEigen.{eigen}
-use Rattle.eigen_theorems.specs.Outcome.{Outcome, Promised, Taken, RunAnswer}
-use Rattle.eigen_theorems.specs.OutcomeLaws.{says}
-use Rattle.eigen_theorems.specs.Taken.{says_ran}
+use Rattle.eigen_theorems.specs.Outcome.{Taken}
 use Rattle.covariance.specs.Covariance.{covariance}
 use Rattle.covariance_theorems.specs.ExactEntries.{Exactly, FirstOver, Untouched}
 use Rattle.covariance_theorems.specs.ExactEntriesLaws.{covariance_sizes, covariance_long, covariance_symmetric, covariance_exact, covariance_finite_out, covariance_over_first}
@@ -47,10 +44,6 @@ module _ (n N : ℕ) (samples : List ℤ) (m : Vec) (o : Answer × Vec) (p : o �
         fit = record { small = (covariance_sizes n N samples m done0).bands; least = least; most = most; choice = choice; square = long; works = works; room = room };
         finite = λ i j h l. covariance_finite_out_calls (i * n + j) (subst (λ (k : ℕ). i * n + j < k) (sym long) (cell n n i j l (omega arith)));
       }
-
-      -- so that a call that meets its promise, x, answers 0, 8, 9 or 10
-      pub covariance_then_ran : (x : Outcome) → Promised n limit edition o.1 work result x → RunAnswer x.0
-      covariance_then_ran x q = subst (λ (r : Outcome). RunAnswer r.0) (sym q) (says_ran n limit edition o.1 (eigen n limit edition o.1 work result) (says n limit edition o.1 work result covariance_then_eigen))
 
 -- two calls that differ in what the matrix held before, x and y
 pub covariance_old_contents_calls : (n N : ℕ) (samples : List ℤ) (x y : Vec) (o p : Answer × Vec) → length x ≡ length y

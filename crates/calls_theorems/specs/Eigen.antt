@@ -10,11 +10,11 @@ use Rattle.answers.specs.Index.{Class, AtMark}
 use Rattle.eigen_theorems.specs.Tql2Outcome.{bad, used}
 use Rattle.eigen_symmetric_eigen.specs.SymmetricEigen.{eigen}
 use Rattle.eigen_theorems.specs.Outcome.{Outcome, Promised, Taken, Done, Halted, Broken0, Broken2, Columns, Points}
-use Rattle.eigen_theorems.specs.OutcomeLaws.{done_exactly, limit_exactly, mark0_exactly, mark1_exactly, mark2_exactly}
-use Rattle.eigen_theorems.specs.Result.{values_ascend, columns_with_values, finite_out}
+use Rattle.eigen_theorems.proofs.OutcomeLaws.{done_exactly, limit_exactly, mark0_exactly, mark1_exactly, mark2_exactly}
+use Rattle.eigen_theorems.proofs.Result.{values_ascend, columns_with_values, finite_out}
 use Rattle.eigen_theorems.specs.OldContents.{eigen_old_contents}
 use Rattle.eigen_theorems.specs.Edition.{edition_refused}
-use Rattle.eigen_theorems.specs.Index.{index_points, index_zero}
+use Rattle.eigen_theorems.proofs.Index.{index_points, index_zero}
 
 -- each number exactly where the scope gives it
 module _ (n limit edition : ℕ) (a work result : Vec) (x : Outcome) (p : Promised n limit edition a work result x) (f : Taken n limit edition a work result) where

@@ -8,13 +8,14 @@ use Rattle.answers.specs.declared.Answer.{Answer}
 use Rattle.eigen_symmetric_eigen.specs.SymmetricEigen.{eigen}
 use Rattle.eigen_tql2.specs.Sort.{sorted}
 use Rattle.eigen_theorems.specs.Outcome.{Outcome, Promised, Done, empty, worked}
-use Rattle.eigen_theorems.specs.OutcomeLaws.{square, diagonal}
-use Rattle.eigen_theorems.specs.Result.{gave, taken_of}
+use Rattle.eigen_theorems.proofs.OutcomeLaws.{square, diagonal}
+use Rattle.eigen_theorems.proofs.Result.{gave, taken_of}
 use Rattle.eigen_theorems.specs.Tql2Lengths.{ran_long}
-use Rattle.eigen_theorems.specs.Tql2OutcomeLaws.{ran_document}
+use Rattle.eigen_theorems.proofs.Tql2OutcomeLaws.{ran_document}
 use Rattle.eigen_theorems.specs.Tql2SortLaws.{sorted_arranged}
 use Rattle.leading.specs.Leading.{leading}
-use Rattle.leading.specs.Result.{given, leading_done, led_value, led_number, led_descends}
+use Rattle.leading.specs.Result.{given}
+use Rattle.leading.proofs.Result.{leading_done, led_value, led_number, led_descends}
 use Rattle.calls_theorems.specs.Eigen.{values_ascend_calls, finite_out_calls}
 
 -- ---- the length of an eigen result

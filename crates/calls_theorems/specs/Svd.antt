@@ -13,14 +13,14 @@ use Rattle.svd.specs.Svd.{svd}
 use Rattle.svd.specs.VtRow.{row_span, part_of}
 use Rattle.svd_theorems.specs.Document.{plain_work}
 use Rattle.svd_theorems.specs.Outcome.{Outcome, Promised, Taken, Done, Halted, Broken2, u_cell, vt_cell}
-use Rattle.svd_theorems.specs.OutcomeLaws.{svd_done_exactly, svd_limit_exactly, svd_mark1_exactly, svd_mark2_exactly}
-use Rattle.svd_theorems.specs.Promise.{svd_descends}
+use Rattle.svd_theorems.proofs.OutcomeLaws.{svd_done_exactly, svd_limit_exactly, svd_mark1_exactly, svd_mark2_exactly}
+use Rattle.svd_theorems.proofs.Promise.{svd_descends}
 use Rattle.svd_theorems.specs.Limit.{svd_limit_raised}
-use Rattle.svd_theorems.specs.Result.{svd_cells_u, svd_cells_vt, vt_row_cells, svd_finite_out}
-use Rattle.svd_theorems.specs.Flags.{svd_flags_numbers, svd_flags_values, svd_flags_u, svd_flags_vt}
+use Rattle.svd_theorems.proofs.Result.{svd_cells_u, svd_cells_vt, vt_row_cells, svd_finite_out}
+use Rattle.svd_theorems.proofs.Flags.{svd_flags_numbers, svd_flags_values, svd_flags_u, svd_flags_vt}
 use Rattle.svd_theorems.specs.OldContents.{svd_old_contents}
 use Rattle.svd_theorems.specs.Index.{Points}
-use Rattle.svd_theorems.specs.IndexLaws.{svd_index_points, svd_index_zero}
+use Rattle.svd_theorems.proofs.IndexLaws.{svd_index_points, svd_index_zero}
 
 -- each number exactly where the scope gives it
 module _ (m n u vt limit : ℕ) (matrix work result : Vec) (x : Outcome) (p : Promised m n u vt limit matrix work result x) (f : Taken m n u vt limit matrix work result) where

@@ -13,12 +13,12 @@ use Rattle.leaves.specs.Finite.{Finite}
 use Rattle.leaves.specs.declared.Bad.{Bad}
 use Rattle.leaves.specs.declared.Bad.TheVariants.{At, Nowhere}
 use Rattle.answers.specs.Answers.{done, emptied, marked, unless_bad, least, decomposition_length}
-use Rattle.answers.specs.OutcomeLaws.{present_is}
+use Rattle.answers.proofs.OutcomeLaws.{present_is}
 use Rattle.answers.specs.Checks.{tolerance_good, lengths, fitting}
 use Rattle.answers.specs.ToleranceLaws.{fitting_11, fitting_lengths}
 use Rattle.svd_theorems.specs.Outcome.{Outcome, Promised, Taken}
-use Rattle.svd_theorems.specs.OutcomeLaws.{taken_of}
-use Rattle.svd_theorems.specs.Result.{svd_long, svd_finite_out}
+use Rattle.svd_theorems.proofs.OutcomeLaws.{taken_of}
+use Rattle.svd_theorems.proofs.Result.{svd_long, svd_finite_out}
 use Rattle.svd.specs.Svd.{svd}
 use Rattle.solve.specs.ChecksLaws.{solve_checks_5, solve_checks_last, inverse_checks_last}
 use Rattle.solve.specs.Solve.{solve_checks, inverse_checks, looked, solve, pseudo_inverse}

@@ -1,4 +1,6 @@
 // The covariances of n bands of samples, each multiplied by the square of how many samples a band has, worked out exactly in whole numbers.
+#![tactic(auto)]
+
 pub mod whole_numbers; // Whole numbers with a sign, exact in 64 bits, and the test against 2^53
 pub mod sample_sums; // Sums of samples and of products of samples, worked out exactly in whole numbers
 mod matrix_entries; // The entries of the covariances (`covariance`), behind the checks: each that of two bands of samples, worked out exactly in whole numbers and stored

@@ -1,4 +1,6 @@
 // The sums of n bands of samples, worked out exactly in whole numbers.
+#![tactic(auto)]
+
 ghost use Rattle.std.specs.Prelude.{◌≡◌, ◌*◌, ◌≤◌, length};
 ghost use Rattle.covariance_sums.specs.Sums.{sum_checks, sums_of, sums};
 

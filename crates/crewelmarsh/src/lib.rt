@@ -1,6 +1,8 @@
 // The entries that a C codec calls. Each hands on to the function of its name and keeps its promise. A slice is a pointer and
 // a length in C; what comes back is a struct of the header, of up to four numbers, or one number. The number at a name's end is the
 // header's major version, so that a program built with a header of another one doesn't link.
+#![tactic(auto)]
+
 ghost use Rattle.std.specs.Prelude.{◌≡◌};
 ghost use Rattle.eigen_symmetric_eigen.specs.SymmetricEigen.{eigen};
 ghost use Rattle.eigen_steps.specs.Steps.{started, stepped, finished};

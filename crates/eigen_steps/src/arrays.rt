@@ -18,7 +18,7 @@ use grid::{LARGEST, copy, fill};
 use leaves::{Bad, is_bad};
 
 // How a run stands, and what the last call gave.
-#[derive(Drop)]
+#[derive(Clone, Copy)]
 pub struct Stand {
     pub run: Run,
     pub answer: Answer,

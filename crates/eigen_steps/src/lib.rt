@@ -1,5 +1,7 @@
 // The run of `symmetric_eigen` one QL pass at a time: a start, steps, and a finish. e stands in work, d at the front of
 // result, and v behind it, column by column until the finish.
+#![tactic(auto)]
+
 mod prepare; // A run of `symmetric_eigen` made ready for its first l
 mod arrays; // A run of `symmetric_eigen` on the arrays that it is lent: e in work, d at the front of the result and v behind it, column by column while the run goes on
 mod start; // The start of a run of `symmetric_eigen` in steps, on a matrix of finite numbers: how it stands before its first l
@@ -22,7 +24,7 @@ use leaves::scan::first_bad_lower;
 // A run of `symmetric_eigen`. It goes on while run.stop is 0 and has ended otherwise; answer is what the last call gave. Between
 // steps run.l is the l that is worked on, n where the last is done, and run.passes is 0 where the search for m is still to come.
 #[repr(C)]
-#[derive(Drop)]
+#[derive(Clone, Copy)]
 pub struct EigenRun {
     pub n: usize,
     pub limit: usize,

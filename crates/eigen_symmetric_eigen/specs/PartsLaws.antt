@@ -1,6 +1,6 @@
 -- What is lent to the run in parts, and what is put together from them afterwards. Laws only.
 -- `outward` is what a function of the code does on the way; no public promise cites it.
-use Rattle.std.specs.Prelude.{◌≡◌, refl, Bool, true, false, cond, List, [], ◌++◌, ℕ, ◌+◌, ◌*◌, ◌-◌, ◌≤◌, length, take, drop}
+use Rattle.std.specs.Prelude.{◌≡◌, refl, Bool, true, false, cond, ◌++◌, ℕ, ◌+◌, ◌*◌, ◌-◌, ◌≤◌, length, take, drop}
 use Rattle.std.proofs.Common.{sym, ap, ◌∙◌, append-nil, arith, le-ltb, le-leb, eq-eqb, length-append, length-drop, drop_of_length-le, take_all, take_at, drop_at, length-take-le}
 use borrow.Rule.Slice.PartMut.{mid_of, put_mid, same_len_mid}
 use Rattle.std.proofs.lemmas.List.{length-replicate, replicate-append-replicate}
@@ -10,7 +10,7 @@ use Rattle.answers.specs.Answers.{passed}
 use Rattle.answers.specs.declared.Answer.{Answer}
 use Rattle.eigen_symmetric_eigen.specs.ResultLaws.{laid}
 use Rattle.answers.specs.Checks.{edition_good, limit_good, lengths}
-use Rattle.answers.specs.EditionLaws.{edition_lengths}
+use Rattle.answers.proofs.EditionLaws.{edition_lengths}
 use Rattle.eigen_symmetric_eigen.specs.SymmetricEigen.{decomposed, given, cleared, eigen_entered, eigen}
 
 -- after the run: where it is done the vectors stand row by row

@@ -1,4 +1,6 @@
 // `symmetric_eigen`: the eigenvalues of a symmetric matrix, ascending, and their eigenvectors.
+#![tactic(auto)]
+
 pub mod layout; // The matrix of `symmetric_eigen` comes in row by row, is worked on column by column, and its vectors go out row by row
 pub mod result; // What is handed back of an eigen run: the values before the vectors, or +0.0 throughout
 pub mod after_tred2; // The run of `symmetric_eigen` after `tred2`: mark 0, then `tql2`

@@ -4,7 +4,7 @@ use Rattle.std.proofs.Common.{⊎_elim, le-ltb, le-leb}
 use Rattle.grid.specs.Real.{Vec}
 use Rattle.answers.specs.Answers.{refused}
 use Rattle.answers.specs.Checks.{limit_good, edition_good}
-use Rattle.answers.specs.EditionLaws.{edition_right, edition_12}
+use Rattle.answers.proofs.EditionLaws.{edition_right, edition_12}
 use Rattle.eigen_symmetric_eigen.specs.SymmetricEigen.{eigen}
 
 other : (edition : ℕ) → (edition ≡ 1 → ⊥) → (edition ≡ 2 → ⊥) → edition_good edition ≡ false

@@ -5,28 +5,14 @@ pub mod Tql2Document
 pub mod Tql2DocumentLaws
 pub mod Tql2Lengths
 pub mod Tql2Outcome
-pub mod Tql2OutcomeLaws
-pub mod Tql2Marks
 pub mod Permutation
 pub mod Tql2SortLaws
 -- `symmetric_eigen` beside document 000, and where each of its numbers is given.
 pub mod Document
 pub mod DocumentLaws
 pub mod Outcome
-pub mod OutcomeLaws
-pub mod Index
-pub mod Limit
-pub mod Result
 pub mod OldContents
 pub mod Edition
-pub mod Taken
-pub mod Theorems
--- StepsRuns: a start and steps, the arrays untouched between. StepsRest: what is left of a run, and that a step changes nothing of it. StepsKept: what a run keeps.
--- StepsMade: the invariant of a run's record and arrays. StepsEnd: the theorems. StepCalls: the same over calls that meet their promises.
+-- StepsRuns: a start and steps, the arrays untouched between. StepsRest: what is left of a run, and that a step changes nothing of it.
 pub mod StepsRuns
 pub mod StepsRest
-pub mod StepsKept
-pub mod StepsMade
-pub mod StepsEnd
-pub mod StepsPasses
-pub mod StepCalls

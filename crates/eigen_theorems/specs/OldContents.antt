@@ -4,10 +4,10 @@ use Rattle.std.proofs.Common.{◌∙◌, inl, arith}
 use Rattle.grid.specs.Real.{Vec}
 use Rattle.answers.specs.Answers.{refused, passed}
 use Rattle.answers.specs.Early.{EarlyOr12}
-use Rattle.answers.specs.OutcomeLaws.{old_kept}
+use Rattle.answers.proofs.OutcomeLaws.{old_kept}
 use Rattle.answers.specs.declared.Answer.{Answer}
 use Rattle.answers.specs.Checks.{limit_good, fitting_edition}
-use Rattle.answers.specs.EditionLaws.{edition_checked}
+use Rattle.answers.proofs.EditionLaws.{edition_checked}
 use Rattle.eigen_symmetric_eigen.specs.SymmetricEigen.{eigen_entered, eigen}
 use Rattle.eigen_theorems.specs.Outcome.{Outcome}
 

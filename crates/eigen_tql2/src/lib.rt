@@ -1,4 +1,6 @@
 // `tql2` (EISPACK's): the eigenvalues and eigenvectors of a tridiagonal matrix by QL passes, with marks and a limit.
+#![tactic(auto)]
+
 pub mod sort; // The sort at the end of `tql2`: the values ascending, each column with its value
 pub mod l_start_end; // How a run of `tql2` comes to an l, and how it leaves it
 mod run_over_l; // The run of `tql2` over l: QL passes at each, with mark 1 and a limit

@@ -6,7 +6,7 @@ ghost use Rattle.eigen_tql2.specs.SortSteps.{better};
 use grid::{at, at1, put, put1};
 
 // The least number so far, and where it is.
-#[derive(Drop)]
+#[derive(Clone, Copy)]
 pub struct Best {
     pub k: usize,
     pub p: f64,

@@ -1,4 +1,6 @@
 // One QL pass of `tql2`: the QL transformation, mark 1 and the convergence test.
+#![tactic(auto)]
+
 pub mod ql_transformation; // The QL transformation of one pass of `tql2` (EISPACK's, with the implicit shift), with the hypot of an edition, over the diagonal d, the subdiagonal e and the vectors v
 
 ghost use Rattle.std.specs.Prelude.{◌≡◌, ◌+◌, ◌*◌, ◌<◌, ◌^◌, length};
@@ -13,7 +15,7 @@ use leaves::{Bad, magnitude};
 // A run of `tql2` at l. stop is 0 while passes are to be run at l, 1 where l has settled, 8 or 10 where a number is not
 // finite, which index tells, 9 where the limit is used up.
 #[repr(C)]
-#[derive(Drop)]
+#[derive(Clone, Copy)]
 pub struct Run {
     pub l: usize,
     pub m: usize,
@@ -26,7 +28,7 @@ pub struct Run {
 }
 
 // Why the passes stop: a run's stop and index.
-#[derive(Drop)]
+#[derive(Clone, Copy)]
 pub struct Reason {
     pub stop: usize,
     pub index: usize,

@@ -7,7 +7,7 @@ use grid::{at, at1, put, put1};
 use hypot::pythag;
 
 // What one turn of a pass hands to the next.
-#[derive(Drop)]
+#[derive(Clone, Copy)]
 pub struct Spin {
     pub c: f64,
     pub c2: f64,

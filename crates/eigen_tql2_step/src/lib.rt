@@ -1,4 +1,6 @@
 // The run over l of `tql2` one pass at a time: what a step does.
+#![tactic(auto)]
+
 pub mod checks; // What is refused of a run of `tql2` that is still going
 mod skip_settled; // The run over l of `tql2` one pass at a time: settled l are skipped
 

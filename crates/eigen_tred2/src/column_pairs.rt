@@ -7,7 +7,7 @@ ghost use Rattle.eigen_tred2.specs.ColumnPairs.{sums, two_columns};
 use grid::{at, at1, put1};
 
 // A number of column j and one of column j + 1.
-#[derive(Drop)]
+#[derive(Clone, Copy)]
 pub struct Pair {
     pub a: f64,
     pub b: f64,

@@ -1,4 +1,6 @@
 // The transformations of the reduction accumulated, and document 000's tred2 as a whole.
+#![tactic(auto)]
+
 mod householder; // The Householder vector of one step of document 000's tred2, operation for operation
 mod column_pairs; // Two columns of the similarity transformation (`similarity`) side by side in one walk: each sum has its own order, and each element of e takes the share of the first column before that of the second
 mod similarity; // The similarity transformation of one step of tred2's reduction, by pairs of columns

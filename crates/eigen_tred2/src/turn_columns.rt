@@ -9,7 +9,7 @@ ghost use Rattle.eigen_tred2.specs.FourColumns.{dots, four_turns};
 use grid::{at, at1, put, put1};
 
 // The products of columns j, j + 1, j + 2 and j + 3 with column m.
-#[derive(Drop)]
+#[derive(Clone, Copy)]
 pub struct Four {
     pub a: f64,
     pub b: f64,

@@ -19,11 +19,11 @@ use Rattle.hypot.specs.Patterns.{zero_units}
 use Rattle.hypot.specs.Rounds.{in_reach}
 use Rattle.svd_gain_theorems.specs.Scale.{moved, scale, is_zero, fine, Scaled, Product}
 use Rattle.svd_gain_theorems.specs.ScaleLaws.{moved_val, scale_none}
-use Rattle.svd_gain_theorems.specs.Round.{fine_finite, units_normal, round_zero, round_some, round_scaled_at}
+use Rattle.svd_gain_theorems.proofs.Round.{fine_finite, units_normal, round_zero, round_some, round_scaled_at}
 use Rattle.svd_gain_theorems.specs.Compare.{lt_scaled, eq_scaled, magnitude_scaled, zero_scaled}
-use Rattle.svd_gain_theorems.specs.Ops.{fits_low, units_of, mul_scaled, div_same}
-use Rattle.svd_gain_theorems.specs.RootScaled.{whole_scale, middle_scaled, whole_part, units_scaled, units_high, root_low, fits_high}
-use Rattle.svd_gain_theorems.specs.Turn.{zero_is, zero_fits}
+use Rattle.svd_gain_theorems.proofs.Ops.{fits_low, units_of, mul_scaled, div_same}
+use Rattle.svd_gain_theorems.proofs.RootScaled.{whole_scale, middle_scaled, whole_part, units_scaled, units_high, root_low, fits_high}
+use Rattle.svd_gain_theorems.proofs.Turn.{zero_is, zero_fits}
 use Rattle.gain_path_theorems.specs.Wholes.{four_power}
 use Rattle.gain_path_theorems.specs.HypotFine.{HypotFine}
 

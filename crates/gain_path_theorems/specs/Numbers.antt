@@ -11,16 +11,14 @@ use Rattle.grid.specs.Real.{Vec, at, zero64, ◌⊕◌, ◌⊖◌, ◌⊗◌, �
 use Rattle.grid.specs.Table.{table}
 use Rattle.grid.specs.TableLaws.{at_table, length_table}
 use Rattle.leaves.specs.Leaf.{magnitude}
-use Rattle.hypot.specs.Edition.{pythag}
 use Rattle.svd_gain_theorems.specs.Scale.{fine, Scaled, Product, Quotient}
 use Rattle.svd_gain_theorems.specs.ScaleLaws.{scale_none}
 use Rattle.svd_gain_theorems.specs.Compare.{magnitude_scaled, lt_scaled, le_scaled}
-use Rattle.svd_gain_theorems.specs.Ops.{mul_scaled, mul_same, add_scaled, sub_scaled, div_same, div_scaled}
-use Rattle.svd_gain_theorems.specs.Turn.{zero_is, zero_fits}
+use Rattle.svd_gain_theorems.proofs.Ops.{mul_scaled, mul_same, add_scaled, sub_scaled, div_same, div_scaled}
+use Rattle.svd_gain_theorems.proofs.Turn.{zero_is, zero_fits}
 use Rattle.svd_gain_theorems.specs.Alike.{Alike}
 use Rattle.svd_gain_theorems.specs.AlikeLaws.{alike_set}
-use Rattle.gain_path_theorems.specs.HypotFine.{HypotFine}
-use Rattle.gain_path_theorems.specs.HypotScaled.{mul_left, pythag_scaled, pythag_fits}
+use Rattle.gain_path_theorems.specs.HypotScaled.{mul_left}
 
 pub record Number (k : ℕ) (x y : Float) : Type 0 where
   pub is : Scaled k x y
@@ -78,13 +76,6 @@ module _ (k : ℕ) (x y : Float) {x' y' : Float} where
 
   pub div_two : Number (k + k) x x' → Number k y y' → Quotient x y → Quotient x' y' → Number k (x ⊘ y) (x' ⊘ y')
   div_two p q Q Q' = record { is = div_scaled k k x y p.is q.is Q Q'; first = div-fits binary64 x y; second = div-fits binary64 x' y' }
-
-  pub hypot_n : (edition : ℕ) → Number k x x' → Number k y y' → HypotFine edition x y → HypotFine edition x' y' → Number k (pythag edition x y) (pythag edition x' y')
-  hypot_n edition p q H H' = record {
-    is = pythag_scaled k edition x y p.is q.is p.first q.first p.second q.second H H';
-    first = pythag_fits edition x y;
-    second = pythag_fits edition x' y';
-  }
 
   pub lt_n : Number k x x' → Number k y y' → lt x' y' ≡ lt x y
   lt_n p q = ap₂ lt p.is q.is ∙ lt_scaled k x y

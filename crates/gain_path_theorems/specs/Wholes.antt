@@ -10,7 +10,7 @@ use Rattle.std.specs.Float.Ieee.Fits.{down_pos}
 use Rattle.std.specs.Float.Ieee.Back.{round_whole}
 use Rattle.std.specs.Float.Ieee.Scale.{finite}
 use Rattle.svd_gain_theorems.specs.Scale.{scale, is_zero, fine}
-use Rattle.svd_gain_theorems.specs.Round.{round_scaled_at, round_zero, round_some}
+use Rattle.svd_gain_theorems.proofs.Round.{round_scaled_at, round_zero, round_some}
 
 -- ---- sums and products
 

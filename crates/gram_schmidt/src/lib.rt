@@ -1,4 +1,6 @@
 // A column of a matrix against the columns before it, in two passes, and its norm: the Gram-Schmidt of document 000's `qr_q`.
+#![tactic(auto)]
+
 pub mod normalise; // A column over its norm, stored; or the refusal where that norm is not finite
 
 ghost use Rattle.std.specs.Prelude.{◌≡◌, ◌*◌, ◌<◌, ◌≤◌, length};

@@ -1,4 +1,6 @@
 // A vector and a matrix of f64, read and written by a call, so that each access asks one fact.
+#![tactic(auto)]
+
 ghost use Rattle.std.specs.Prelude.{◌≡◌, ◌*◌, ◌<◌, length, set};
 ghost use Rattle.grid.specs.Real.{at, zeros};
 ghost use Rattle.grid.specs.Cell.{at2, put2, entry, put_entry};

@@ -3,3 +3,5 @@ pub mod Sides
 pub mod Examples
 -- The theorems: `Choice`.
 pub mod Choice
+-- That `hypot2` is the nearest double.
+pub mod Nearest

@@ -1,5 +1,7 @@
 // hypot of two `f64`, correctly rounded, ties to even, from bits and whole numbers. A pattern b below the infinity's is k * 2^52 + m: its number is
 // m * 2^k units of 2^-1074, for m the significand and k one less than the exponent's field, or zero where that is zero.
+#![tactic(auto)]
+
 mod rounding; // The digits of a root rounded to the pattern of an `f64`, ties to even
 
 ghost use Rattle.std.specs.Prelude.{◌≡◌, ◌+◌, ◌-◌, ◌*◌, ◌/◌, ◌^◌, ◌≤◌, ◌<◌, T};
@@ -17,14 +19,14 @@ use leaves::{hypot, magnitude};
 use root::{Found, digits, not_a_number};
 
 // hi * 2^56 + lo
-#[derive(Drop)]
+#[derive(Clone, Copy)]
 struct Wide {
     hi: u64,
     lo: u64,
 }
 
 // (hi * 2^56 + lo) * p + lost
-#[derive(Drop)]
+#[derive(Clone, Copy)]
 struct Cut {
     hi: u64,
     lo: u64,

@@ -1,4 +1,6 @@
 // The leading eigenpairs of a symmetric matrix by one Lanczos run from a given start vector: the call.
+#![tactic(auto)]
+
 mod checks; // The checks of a call of `lanczos`: sizes, limit, edition and lengths
 mod run; // The Lanczos run from a given start vector: document 000's `top_eigenpairs_lanczos`
 

@@ -1,4 +1,6 @@
 // The steps of document 000's Lanczos run: the vectors, the alphas and the betas.
+#![tactic(auto)]
+
 pub mod start_vector; // The first vector of a Lanczos run
 mod reorthogonalise; // A vector against those before it and against v, twice: the reorthogonalising of document 000's Lanczos steps
 pub mod step_end; // How a Lanczos step ends, by the norm of what is left

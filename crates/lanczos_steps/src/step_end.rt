@@ -10,7 +10,7 @@ use leaves::{class_of, is_finite};
 const LEAST_BETA: f64 = 0.000000000001;
 
 // How the steps stand: whether they go on, 0 or the refusal, and how many were begun.
-#[derive(Drop)]
+#[derive(Clone, Copy)]
 pub struct Went {
     pub on: bool,
     pub said: Answer,

@@ -1,1 +1,2 @@
 // What holds of every call of `lanczos`. There is no code here: specs/ has the theorems.
+#![tactic(auto)]

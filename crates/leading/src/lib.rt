@@ -1,4 +1,6 @@
 // The k greatest values of a `symmetric_eigen` result, descending, and a row of n for each: the layout that `lanczos` answers with.
+#![tactic(auto)]
+
 ghost use Rattle.std.specs.Prelude.{◌≡◌, ◌+◌, ◌-◌, ◌*◌, ◌≤◌, length, take};
 ghost use Rattle.grid.specs.Real.{at};
 ghost use Rattle.grid.specs.Table.{table, rows};

@@ -49,15 +49,26 @@ nought_equals (fin t zero e) s c h p = simp zero-mul (level_zero t)
     level_zero true = refl
     level_zero false = refl
 nought_equals (fin t (suc m) e) s c h p = absurd (lt_irrefl 0 (subst (λ (x : ℕ). 0 < x) (p.1 ∙ zero-mul (down e)) (mul-pos (mul-pos (zero-lt-suc m) (up_pos e)) h)))
+nought_equals nan s c h p = elim p [ ]
+nought_equals (inf _) s c h p = elim p [ ]
+
+less_nan : eq (sub binary64 nan nan) (of_bits binary64 0) ≡ is_finite nan
+unfolding eq sub is_finite
+less_nan = refl
+
+less_inf : (s : Bool) → eq (sub binary64 (inf s) (inf s)) (of_bits binary64 0) ≡ is_finite (inf s)
+unfolding eq sub is_finite
+less_inf true = refl
+less_inf false = refl
+
+fin_finite : (s : Bool) (m : ℕ) (e : ℤ) → true ≡ is_finite (fin s m e)
+unfolding is_finite
+fin_finite s m e = refl
 
 pub self_less : (x : Float) → eq (sub binary64 x x) (of_bits binary64 0) ≡ is_finite x
-self_less nan = unfold eq sub is_finite in refl
-self_less (inf true) = unfold eq sub is_finite in refl
-self_less (inf false) = unfold eq sub is_finite in refl
+self_less nan = less_nan
+self_less (inf s) = less_inf s
 self_less (fin s m e) =
     let c = down e * down e in
     let h : 0 < c = mul-pos (down_pos e) (down_pos e) in
-    ap (λ (v : Float). eq v (of_bits binary64 0)) (sub_fin s m e ∙ sum_self s (m * up e * down e) c) ∙ nought_equals (round binary64 false 0 c) false c h (round_zero c h) ∙ yes
-  where
-    yes : true ≡ is_finite (fin s m e)
-    yes = unfold is_finite in refl
+    ap (λ (v : Float). eq v (of_bits binary64 0)) (sub_fin s m e ∙ sum_self s (m * up e * down e) c) ∙ nought_equals (round binary64 false 0 c) false c h (round_zero c h) ∙ fin_finite s m e

@@ -1,4 +1,6 @@
 // The leaves: the magnitude, the larger of two, the finite test and hypot; and what is said of a number that is not finite.
+#![tactic(auto)]
+
 pub mod scan; // The first number that is not finite, of a list, of a matrix, or on and below its diagonal
 
 ghost use Rattle.std.specs.Prelude.{◌≡◌};
@@ -8,14 +10,14 @@ ghost use Rattle.leaves.specs.Scan.{class_of, is_bad};
 use root::root;
 
 // What a scan found: the index of the first number that is not finite, and its class, 8 or 10.
-#[derive(Drop)]
+#[derive(Clone, Copy)]
 pub enum Bad {
     At(usize, usize),
     Nowhere,
 }
 
 // Row i, column j.
-#[derive(Drop)]
+#[derive(Clone, Copy)]
 pub struct Place {
     pub i: usize,
     pub j: usize,

@@ -1,5 +1,7 @@
 // A matrix by a vector, and a multiple of one vector added to another: document 000's `matvec` and `scaled_add`, each sum from index 0
 // at +0.0. Four rows go side by side, each in its own order, since a sum waits for itself.
+#![tactic(auto)]
+
 pub mod weighted_rows; // Rows of a matrix, each by a number, added up: sixteen columns of eight rows at a time, so that what is summed stays at hand
 pub mod symmetric_product; // A matrix by a vector, where the matrix may be symmetric: then its rows are its columns, and the product is its rows added up (`weighted_rows`), each number of it in its own order
 

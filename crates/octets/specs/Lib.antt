@@ -1,5 +1,3 @@
--- Numbers as bytes, numbers as bits, and the laws that reading and writing them rest on.
+-- Numbers as bytes, and numbers as bits.
 pub mod Bytes
 pub mod Bits
-pub mod BytesLaws
-pub mod StoreLaws

@@ -1,4 +1,6 @@
 // Doubles by their 64 bits, both ways, and whole numbers read from big-endian bytes.
+#![tactic(auto)]
+
 pub mod write; // Whole numbers and the bits of doubles written as big-endian bytes
 
 ghost use Rattle.std.specs.Prelude.{◌≡◌, map, ◌+◌, ◌*◌, ◌<◌, ◌≤◌, length};

@@ -2,7 +2,8 @@
 use Rattle.std.specs.Prelude.{List, ◌⊎◌, ◌≡◌, ◌*◌, ◌+◌, ◌<◌, ◌^◌, ◌≤◌, ℕ, ◌*ℤ◌, pos, ℤ, length}
 use Rattle.answers.specs.declared.Answer.{Answer}
 use Rattle.covariance.specs.MatrixEntries.{whole}
-use Rattle.calls_theorems.specs.Covariance.{covariance_exact_calls, covariance_finite_out_calls, covariance_index_zero_calls, covariance_old_contents_calls, covariance_over_first_calls, covariance_symmetric_calls, covariance_then_eigen, covariance_then_ran}
+use Rattle.calls_theorems.specs.Covariance.{covariance_exact_calls, covariance_finite_out_calls, covariance_index_zero_calls, covariance_old_contents_calls, covariance_over_first_calls, covariance_symmetric_calls, covariance_then_eigen}
+use Rattle.calls_theorems.proofs.CovarianceRan.{covariance_then_ran}
 use Rattle.covariance.specs.Covariance.{covariance}
 use Rattle.covariance_theorems.specs.Diagonal.{diagonal_not_negative}
 use Rattle.covariance_theorems.specs.ExactEntries.{Exactly, FirstOver, Untouched}
@@ -11,7 +12,7 @@ use Rattle.covariance_theorems.specs.ExactSums.{ExactSum, Sixteen}
 use Rattle.covariance_theorems.specs.ExactSumsLaws.{sums_exact, sums_finite_out, sums_index_zero, sums_old_contents, sums_one}
 use Rattle.covariance_theorems.specs.OneOutcome.{covariance_one}
 use Rattle.eigen_theorems.specs.Outcome.{Outcome, Promised, RunAnswer, Taken}
-use Rattle.gain_path_theorems.specs.CovarianceGain.{covariance_gain, covariance_gain_whole}
+use Rattle.gain_path_theorems.proofs.CovarianceGain.{covariance_gain, covariance_gain_whole}
 use Rattle.gain_path_theorems.specs.CovarianceGained.{CovarianceGained, louder}
 use Rattle.grid.specs.Cell.{entry}
 use Rattle.grid.specs.Real.{Vec, at}

@@ -5,14 +5,15 @@ use Rattle.answers.specs.Answers.{answered, done, refused}
 use Rattle.answers.specs.Early.{EarlyOr12}
 use Rattle.answers.specs.Index.{AtMark, Class}
 use Rattle.calls_theorems.specs.Eigen.{columns_with_values_calls, done_exactly_calls, edition_refused_calls, eigen_old_contents_calls, finite_out_calls, index_points_calls, index_zero_calls, limit_exactly_calls, mark0_exactly_calls, mark1_exactly_calls, mark2_exactly_calls, values_ascend_calls}
-use Rattle.calls_theorems.specs.Refusals.{edition_refused_exactly_calls}
+use Rattle.calls_theorems.proofs.Refusals.{edition_refused_exactly_calls}
 use Rattle.answers.specs.Checks.{edition_good, fitting_edition}
-use Rattle.answers.specs.EditionLaws.{edition_12, edition_right, right_edition}
+use Rattle.answers.proofs.EditionLaws.{edition_12, edition_right, right_edition}
 use Rattle.eigen_symmetric_eigen.specs.SymmetricEigen.{eigen}
 use Rattle.eigen_theorems.specs.Document.{SymmetricEigen}
 use Rattle.eigen_theorems.specs.Outcome.{Broken0, Broken2, Columns, Done, Fit, Halted, Outcome, Points, Promised, Says, Taken, finished_with}
-use Rattle.eigen_theorems.specs.OutcomeLaws.{done_document, done_result, says_once}
-use Rattle.eigen_theorems.specs.Theorems.{limit_raised_calls, lower_only_calls, marks_only_stop, marks_only_stop_calls, one_outcome}
+use Rattle.eigen_theorems.proofs.OutcomeLaws.{done_document, done_result, says_once}
+use Rattle.eigen_theorems.proofs.Raised.{limit_raised_calls}
+use Rattle.eigen_theorems.proofs.Theorems.{lower_only_calls, marks_only_stop, marks_only_stop_calls, one_outcome}
 use Rattle.grid.specs.Cell.{entry}
 use Rattle.grid.specs.Real.{Vec, at}
 use Rattle.leaves.specs.Leaf.{is_finite}
@@ -21,7 +22,7 @@ use Rattle.eigen_theorems.specs.Permutation.{Arranged}
 use Rattle.eigen_theorems.specs.Tql2Document.{Carried}
 use Rattle.eigen_theorems.specs.Tql2SortLaws.{sorted_arranged, sorted_ascends}
 use Rattle.eigen_theorems.specs.Tql2Outcome.{End, FirstIn, Turned, bad, list1, used}
-use Rattle.eigen_theorems.specs.Tql2OutcomeLaws.{limit_spent, mark1_sees, turned_within}
+use Rattle.eigen_theorems.proofs.Tql2OutcomeLaws.{limit_spent, mark1_sees, turned_within}
 use Rattle.eigen_theorems.specs.Document as Doc
 
 -- Two outcomes that satisfy the promise are one.

@@ -12,26 +12,26 @@ use Rattle.gain_path_theorems.specs.CovarianceGained.{louder}
 use Rattle.gain_path_theorems.specs.EigenCases as EigenCases
 use Rattle.gain_path_theorems.specs.EigenCounter as EigenCounter
 use Rattle.gain_path_theorems.specs.EigenFine.{EigenFine, EigenGained}
-use Rattle.gain_path_theorems.specs.EigenScaled.{gain_keeps_eigenvectors}
-use Rattle.gain_path_theorems.specs.EigenWorked as EigenWorked
+use Rattle.gain_path_theorems.proofs.EigenScaled.{gain_keeps_eigenvectors}
+use Rattle.gain_path_theorems.proofs.EigenWorked as EigenWorked
 use Rattle.gain_path_theorems.specs.HypotFine.{HypotFine}
 use Rattle.gain_path_theorems.specs.HypotScaled.{pythag_scaled}
 use Rattle.gain_path_theorems.specs.Numbers.{Doubles, Pair}
-use Rattle.gain_path_theorems.specs.PathGain.{gain_keeps_path}
-use Rattle.gain_path_theorems.specs.PathWorked as PathWorked
+use Rattle.gain_path_theorems.proofs.PathGain.{gain_keeps_path}
+use Rattle.gain_path_theorems.proofs.PathWorked as PathWorked
 use Rattle.gain_path_theorems.specs.Tql2Fine.{Tql2Fine, Tql2Gained}
-use Rattle.gain_path_theorems.specs.Tql2Scaled.{tql2_gain}
+use Rattle.gain_path_theorems.proofs.Tql2Scaled.{tql2_gain}
 use Rattle.gain_path_theorems.specs.Tred2Fine.{Reduced, Tred2Fine}
-use Rattle.gain_path_theorems.specs.Tred2Scaled.{tred2_scaled}
+use Rattle.gain_path_theorems.proofs.Tred2Scaled.{tred2_scaled}
 use Rattle.hypot.specs.Edition.{pythag}
 use Rattle.svd_gain_theorems.specs.Fine.{SvdFine}
-use Rattle.svd_gain_theorems.specs.Gain.{gain_keeps_basis}
+use Rattle.svd_gain_theorems.proofs.Gain.{gain_keeps_basis}
 use Rattle.svd_gain_theorems.specs.Gained.{Gained}
 use Rattle.svd_gain_theorems.specs.Scale.{Scaled, fine, scale}
-use Rattle.svd_gain_theorems.specs.Times.{scale_times}
+use Rattle.svd_gain_theorems.proofs.Times.{scale_times}
 use Rattle.svd_gain_theorems.specs.Cases.{Fails, Keeps, fine_or_over, gained, large, matrix, outcome, small, tiny}
 use Rattle.svd_gain_theorems.specs.Counter.{overflow_done, overflow_needed, subnormal_needed, zero_product_needed}
-use Rattle.svd_gain_theorems.specs.Worked.{done, eightfold_asked, matrix_asked, small_asked, worked_3, worked_minus_5}
+use Rattle.svd_gain_theorems.proofs.Worked.{done, eightfold_asked, matrix_asked, small_asked, worked_3, worked_minus_5}
 use Rattle.grid.specs.Real.{Vec, ◌⊗◌, zeros}
 use Rattle.leaves.specs.Leaf.{is_finite}
 use Rattle.svd_theorems.specs.Outcome.{Outcome, Promised}

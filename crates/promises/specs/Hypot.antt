@@ -10,7 +10,7 @@ use Rattle.leaves.specs.Leaf.{hypot, magnitude}
 use Rattle.hypot.proofs.Examples.{first_infinite as ex-first-infinite, gap as ex-gap, gap_more as ex-gap-more, infinity_first as ex-infinity-first, last_finite as ex-last-finite, least as ex-least, least_up as ex-least-up, no_number as ex-no-number, three_four_five as ex-three-four-five, tie_down as ex-tie-down, tie_up as ex-tie-up, to_normal as ex-to-normal, zeros as ex-zeros}
 use Rattle.hypot.proofs.Sides.{hypot2_beside_zero, hypot2_symmetric, hypot2_zero}
 use Rattle.hypot.specs.Hypot2.{hypot2}
-use Rattle.hypot.specs.Nearest.{hypot2_nearest, nearest_only}
+use Rattle.hypot.proofs.Nearest.{hypot2_nearest, nearest_only}
 use Rattle.hypot.specs.NearestEven.{NearestEven}
 
 -- Of two finite doubles the hypot of edition 2 is a double than which none without a minus sign is nearer to the exact root of x² + y², the even one of two that are as near, and +infinity from the midpoint of the largest double and 2^1024 on.

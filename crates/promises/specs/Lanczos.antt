@@ -8,13 +8,13 @@ use Rattle.eigen_theorems.specs.Outcome.{RunAnswer}
 use Rattle.grid.specs.Real.{Vec, at, zero64, zeros}
 use Rattle.lanczos.specs.Lanczos.{lanczos}
 use Rattle.lanczos_theorems.specs.Early.{Outcome, Promised, Untouched}
-use Rattle.lanczos_theorems.specs.Limit.{lanczos_limit_calls}
-use Rattle.lanczos_theorems.specs.OldContents.{lanczos_old_contents_calls, lanczos_untouched}
+use Rattle.lanczos_theorems.proofs.LimitCalls.{lanczos_limit_calls}
+use Rattle.lanczos_theorems.proofs.OldContents.{lanczos_old_contents_calls, lanczos_untouched}
 use Rattle.lanczos_theorems.specs.OneOutcome.{lanczos_one}
 use Rattle.lanczos_theorems.specs.Result.{lanczos_out_calls}
-use Rattle.lanczos_theorems.specs.Pairs.{lanczos_found_calls}
+use Rattle.lanczos_theorems.proofs.Pairs.{lanczos_found_calls}
 use Rattle.lanczos_theorems.specs.RunOutcome.{Fit, Points, Says, Stepped, inner_of}
-use Rattle.lanczos_theorems.specs.RunOutcomeLaws.{inner_ran, lanczos_answers_calls, lanczos_exactly_calls, lanczos_index_points_calls, lanczos_index_zero_calls, lanczos_says_calls}
+use Rattle.lanczos_theorems.proofs.RunOutcomeLaws.{inner_ran, lanczos_answers_calls, lanczos_exactly_calls, lanczos_index_points_calls, lanczos_index_zero_calls, lanczos_says_calls}
 use Rattle.lanczos.specs.Checks.{checks}
 use Rattle.leaves.specs.Finite.{Finite}
 

@@ -7,7 +7,7 @@ use Rattle.calls_theorems.specs.Leading.{leading_of_eigen_descends, leading_of_e
 use Rattle.eigen_theorems.specs.Outcome.{Outcome, Promised}
 use Rattle.grid.specs.Real.{Vec, at}
 use Rattle.leading.specs.Leading.{checks, leading}
-use Rattle.leading.specs.Result.{leading_finite_out, leading_old_contents, leading_one, leading_untouched}
+use Rattle.leading.proofs.Result.{leading_finite_out, leading_old_contents, leading_one, leading_untouched}
 use Rattle.leaves.specs.Finite.{Finite}
 
 -- Two outcomes that satisfy the promise are one.

@@ -1,7 +1,5 @@
--- Every theorem that docs/PROMISES.md names with a T, in full, one file to a call or a subject. `Nearness` and `NearnessLaws` are what T1 says over all doubles, and its proof.
+-- Every theorem that docs/PROMISES.md names with a T, in full, one file to a call or a subject. `Nearness` is what T1 says over all doubles; T1 itself, `Root`, and its proof, `NearnessLaws`, stand in proofs/.
 pub mod Nearness
-pub mod NearnessLaws
-pub mod Root
 pub mod Hypot
 pub mod Eigen
 pub mod Svd

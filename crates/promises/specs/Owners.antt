@@ -2,16 +2,16 @@
 use Rattle.std.specs.Prelude.{cond, false, true, List, [], ◌∷◌, ◌≡◌, ◌+◌, ◌<◌, ◌≤◌, ℕ, eqb, get_or, length, replicate}
 use Rattle.answers.specs.Answers.{done, refused}
 use Rattle.answers.specs.declared.Answer.{Answer}
-use Rattle.store_definition.specs.Damaged.{SetUpNumber, call_refused, index_of, out_of, reset_damaged, reset_refused}
-use Rattle.store_definition.specs.OwnersApart.{own_map, own_store, owners_agree, owners_apart, part_kept, set_up_sound, step_sound}
+use Rattle.store_definition.proofs.Damaged.{SetUpNumber, call_refused, index_of, out_of, reset_damaged, reset_refused}
+use Rattle.store_definition.proofs.OwnersApart.{own_map, own_store, owners_agree, owners_apart, part_kept, set_up_sound, step_sound}
 use Rattle.store_definition.specs.OwnersEvents.{By, Event2, ResetBoth, call_for, own_arrays, own_events, own_seen, reset_both, resets, two_step}
 use Rattle.store_definition.proofs.OwnersWorked.{worked}
-use Rattle.store_definition.specs.LaidLaws.{nobody}
-use Rattle.store_definition.specs.Nobody.{nobody_drop, nobody_fetch, nobody_length, nobody_put}
+use Rattle.store_definition.proofs.LaidLaws.{nobody}
+use Rattle.store_definition.proofs.Nobody.{nobody_drop, nobody_fetch, nobody_length, nobody_put}
 use Rattle.store_definition.specs.OwnersOneOutcome.{drop_for_one, fetch_for_one, length_for_one, put_for_one, reset_one, set_up2_one}
 use Rattle.store_definition.specs.Owners.{barred, drop_for, fetch_for, laid, length_for, listed2, put_for, reset, set_up2, sound_both, sound_for}
 use Rattle.store_definition.specs.Calls.{Arrays, Call, Drop, Fetch, Length, Put, map_step, run, store_step}
-use Rattle.store_definition.specs.Sequence.{emptied}
+use Rattle.store_definition.proofs.Sequence.{emptied}
 use Rattle.store_definition.specs.Store.{Outcome, listed}
 
 -- Two outcomes of a set-up of both owners that satisfy its promise are one.

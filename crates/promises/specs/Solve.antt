@@ -7,7 +7,7 @@ use Rattle.answers.specs.Early.{EarlyOr11}
 use Rattle.answers.specs.Index.{AtMark}
 use Rattle.answers.specs.declared.Answer.{Answer}
 use Rattle.calls_theorems.specs.Answers.{pseudo_inverse_as_before_calls, pseudo_inverse_finite_out_calls, pseudo_inverse_index_points_calls, pseudo_inverse_index_zero_calls, pseudo_inverse_old_contents_calls, pseudo_inverse_tolerance_zero_calls, solve_as_before_calls, solve_finite_out_calls, solve_index_points_calls, solve_index_zero_calls, solve_old_contents_calls, solve_tolerance_zero_calls}
-use Rattle.calls_theorems.specs.Refusals.{pseudo_inverse_11_exactly_calls, solve_11_exactly_calls}
+use Rattle.calls_theorems.proofs.Refusals.{pseudo_inverse_11_exactly_calls, solve_11_exactly_calls}
 use Rattle.calls_theorems.specs.Sayings.{Says, Weighs}
 use Rattle.calls_theorems.specs.Together.{svd_then_pseudo_inverse, svd_then_solve}
 use Rattle.answers.specs.Checks.{fitting, tolerance_good}

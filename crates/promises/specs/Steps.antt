@@ -5,9 +5,9 @@ use Rattle.answers.specs.declared.Answer.{Answer}
 use Rattle.eigen_symmetric_eigen.specs.SymmetricEigen.{eigen}
 use Rattle.grid.specs.Real.{Vec}
 use Rattle.eigen_tql2_pass.specs.declared.Run.{Run}
-use Rattle.eigen_theorems.specs.StepCalls.{Stepping, early_finish_calls, ended_repeats_calls, finish_one, never_refused_calls, start_one, step_one, steps_end_as_one_call_calls, while_going_calls}
-use Rattle.eigen_theorems.specs.StepsEnd.{answer_forgotten, finish_ends_it, finish_in_time, steps_arrive, steps_at_most}
-use Rattle.eigen_theorems.specs.StepsPasses.{passes_by_steps, start_runs_none, step_runs_one, step_runs_one_at_most, steps_not_fewer}
+use Rattle.eigen_theorems.proofs.StepCalls.{Stepping, early_finish_calls, ended_repeats_calls, finish_one, never_refused_calls, start_one, step_one, steps_end_as_one_call_calls, while_going_calls}
+use Rattle.eigen_theorems.proofs.StepsEnd.{answer_forgotten, finish_ends_it, finish_in_time, steps_arrive, steps_at_most}
+use Rattle.eigen_theorems.proofs.StepsPasses.{passes_by_steps, start_runs_none, step_runs_one, step_runs_one_at_most, steps_not_fewer}
 use Rattle.eigen_theorems.specs.StepsRuns.{Reached, after, arrived, reply}
 use Rattle.eigen_steps.specs.Steps.{Outcome, answering, finished, recorded, running, started, stepped}
 use Rattle.eigen_steps.specs.declared.EigenRun.{EigenRun}

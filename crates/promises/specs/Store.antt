@@ -5,7 +5,7 @@ use Rattle.answers.specs.declared.Answer.{Answer}
 use Rattle.store_definition.proofs.Worked.{looked, worked}
 use Rattle.store_definition.specs.Calls.{Arrays, Call, Do, Drop, Event, Fetch, Length, Put, Reset, map_call, map_of, map_step, run, store_call, store_step}
 use Rattle.store_definition.specs.OneOutcome.{drop_one, fetch_one, length_one, put_one, set_up_one}
-use Rattle.store_definition.specs.Sequence.{as_a_map, as_it_shows, commutes, emptied}
+use Rattle.store_definition.proofs.Sequence.{as_a_map, as_it_shows, commutes, emptied}
 use Rattle.store_definition.specs.Store.{Outcome, drop_of, fetch_of, length_held, listed, put_of, room_of, set_up, sound}
 
 -- Two outcomes of a set-up that satisfy its promise are one.

@@ -10,9 +10,9 @@ use Rattle.leaves.specs.Leaf.{is_finite}
 use Rattle.svd_sort_svd_descending.specs.Order.{order}
 use Rattle.svd_theorems.specs.Document.{Sorted, plain_svd, plain_work}
 use Rattle.svd_theorems.specs.Outcome.{Broken2, Done, Halted, Outcome, Promised, Taken, u_cell, vt_cell}
-use Rattle.svd_theorems.specs.OutcomeLaws.{svd_done_result, svd_limit_spent}
+use Rattle.svd_theorems.proofs.OutcomeLaws.{svd_done_result, svd_limit_spent}
 use Rattle.svd_theorems.specs.Index.{Points}
-use Rattle.svd_theorems.specs.Promise.{svd_one_outcome, svd_plain, svd_sorted, svd_values}
+use Rattle.svd_theorems.proofs.Promise.{svd_one_outcome, svd_plain, svd_sorted, svd_values}
 use Rattle.svd_theorems.specs.Order.{order_sorted}
 use Rattle.svd_theorems.specs.SweepsOutcome.{bad, used}
 use Rattle.svd.specs.VtRowPlaced.{extent_at, extent_part}

@@ -1,7 +1,7 @@
 -- What is proved of the tally. Laws only.
 use Rattle.std.specs.Prelude.{cond, List, [], ◌∷◌, ◌≡◌, ℕ, ltb, length}
 use Rattle.tally_definition.proofs.Worked.{edges, worked}
-use Rattle.tally_definition.specs.Counted.{answered, counted, counted_taken, refused_stays, replied, taken_accepted}
+use Rattle.tally_definition.proofs.Counted.{answered, counted, counted_taken, refused_stays, replied, taken_accepted}
 use Rattle.tally_definition.specs.Figures.{Tile, accepted, good}
 use Rattle.tally_definition.specs.OneOutcome.{tally_one}
 use Rattle.tally_definition.specs.Series.{figures, series, taken_of}

@@ -3,9 +3,9 @@ use Rattle.std.specs.Prelude.{List, [], ◌∷◌, ◌++◌, ◌≡◌, ℕ}
 use Rattle.tally_definition.specs.Figures.{Tile}
 use Rattle.tally_definition.specs.Series.{figures, series}
 use Rattle.tally_definition.specs.Tallies.{none}
-use Rattle.text_tiles_definition.specs.LineLaws.{one_series, tallied_figures, tallied_series, starts}
+use Rattle.text_tiles_definition.proofs.LineLaws.{one_series, tallied_figures, tallied_series, starts}
 use Rattle.text_tiles_definition.specs.Lines.{Full, Reads, StartsWith, fresh, heard, run, tallied, whole}
-use Rattle.text_tiles_definition.specs.StepLaws.{heard_tallied, run_append}
+use Rattle.text_tiles_definition.proofs.StepLaws.{heard_tallied, run_append}
 use Rattle.text_tiles_definition.specs.declared.Series.{Series}
 
 -- Every text is the lines of some tiles, none of which is refused, and then something that starts with no line of a tile that is taken.

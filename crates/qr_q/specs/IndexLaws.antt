@@ -16,7 +16,7 @@ use Rattle.leaves.specs.Finite.{First}
 use Rattle.answers.specs.Answers.{answered, done, emptied}
 use Rattle.answers.specs.Index.{AtMark, Indexed}
 use Rattle.answers.specs.IndexLaws.{refuse_index, below, pointed, unless_indexed, by_check}
-use Rattle.answers.specs.OutcomeLaws.{refuse_few}
+use Rattle.answers.proofs.OutcomeLaws.{refuse_few}
 use Rattle.answers.specs.declared.Answer.{Answer}
 use Rattle.answers.specs.Checks.{lengths}
 use Rattle.answers.specs.ChecksLaws.{lengths_index}

@@ -5,7 +5,7 @@ use Rattle.grid.specs.Real.{Vec}
 use Rattle.leaves.specs.Scan.{first_bad}
 use Rattle.answers.specs.Answers.{passed, unless_bad}
 use Rattle.answers.specs.Early.{Early}
-use Rattle.answers.specs.OutcomeLaws.{refuse_few, same_bad, old}
+use Rattle.answers.proofs.OutcomeLaws.{refuse_few, same_bad, old}
 use Rattle.answers.specs.declared.Answer.{Answer}
 use Rattle.answers.specs.ChecksLaws.{lengths_few}
 use Rattle.qr_q.specs.QrQ.{checks, columns, qr_q}

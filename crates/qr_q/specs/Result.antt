@@ -19,7 +19,7 @@ use Rattle.leaves.specs.Finite.{Finite}
 use Rattle.leaves.specs.declared.Bad.{Bad}
 use Rattle.leaves.specs.declared.Bad.TheVariants.{At, Nowhere}
 use Rattle.answers.specs.Answers.{answered, done, passed, emptied, unless_bad}
-use Rattle.answers.specs.OutcomeLaws.{Good, refuses, check_good}
+use Rattle.answers.proofs.OutcomeLaws.{Good, refuses, check_good}
 use Rattle.answers.specs.declared.Answer.{Answer}
 use Rattle.gram_schmidt.specs.Gram.{column_of, dot, lessened, less_columns, less_columns_twice, norm}
 use Rattle.gram_schmidt.specs.Unit.{over, normalised, put_column, finished}

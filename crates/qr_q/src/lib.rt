@@ -1,4 +1,6 @@
 // An orthonormal basis of a matrix's columns by modified Gram-Schmidt (document 000's `qr_q`).
+#![tactic(auto)]
+
 ghost use Rattle.std.specs.Prelude.{◌≡◌, ◌*◌, ◌<◌, ◌≤◌, length};
 ghost use Rattle.answers.specs.Answers.{unless_bad};
 ghost use Rattle.leaves.specs.Scan.{first_bad};

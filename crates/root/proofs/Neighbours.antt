@@ -14,6 +14,8 @@ use Rattle.root.proofs.Patterns.{units_of, units_val, bits_value, no_nan, is_pos
 use Rattle.root.proofs.Nearest.{root_nearest, nearest_only}
 use Rattle.root.proofs.Rounds.{root_is}
 use Rattle.root.proofs.Worked.{units_are, pattern, pattern_counted, root_range}
+use Rattle.std.specs.Float.{nan, inf}
+use Rattle.std.specs.Prelude.{true}
 
 next_digit : (x t : ℕ) → units_of x t < units_of x (t + 1)
 next_digit zero t = omega arith
@@ -118,9 +120,15 @@ module _ (x : Float) (f : T (fits binary64 x)) (p : T (positive x)) where
 counted_cases : (y : Float) → T (counted y) → (units y ≡ 0) ⊎ T (positive y)
 counted_cases (fin false zero e) c = inl (ap (λ (u : ℕ). u * 2 ^ 1074 / down e) (zero-mul (up e)) ∙ zero-div (down e))
 counted_cases (fin false (suc m) e) c = inr (lt→ltb 0 (suc m) (omega arith))
+counted_cases nan c = elim c [ ]
+counted_cases (inf _) c = elim c [ ]
+counted_cases (fin true _ e) c = elim c [ ]
 
 is_counted : (r : Float) → T (positive r) → T (counted r)
 is_counted (fin false m e) p = tt
+is_counted nan p = elim p [ ]
+is_counted (inf _) p = elim p [ ]
+is_counted (fin true m e) p = elim p [ ]
 
 module _ (r : Float) (f : T (fits binary64 r)) (p : T (positive r)) (y : Float) (g : T (fits binary64 y)) (c : T (counted y)) where
   less : units y < units r → units y ≤ units (lesser r)

@@ -68,6 +68,8 @@ unfolding root
 root_negative (fin true zero e) a c h p = absurd (no_zero (down e) a c h (down_pos e) (sym (zero_side (up e) c) ∙ p.1))
 root_negative (fin true (suc m) e) a c h p = refl
 root_negative (fin false m e) a c h p = absurd (true≢false (sym p.0))
+root_negative nan a c h p = elim p [ ]
+root_negative (inf _) a c h p = elim p [ ]
 
 -- ---- `root` of a pattern
 

@@ -17,6 +17,8 @@ use Rattle.root.proofs.Worked.{worked, root_range, pattern, pattern_counted, uni
 use Rattle.root.proofs.Whole.{Is, whole_is, sq_lt_back, sq_mul}
 use Rattle.root.proofs.Fields.{val, split}
 use Rattle.root.proofs.Patterns.{bits_value}
+use Rattle.std.specs.Float.{nan, inf}
+use Rattle.std.specs.Prelude.{true}
 
 -- ---- what `compare` says
 abbrev pub Cmp : Ordering → ℕ → ℕ → Type 0
@@ -160,6 +162,9 @@ root_positive : (x : Float) → T (positive x) → root x ≡ round binary64 fal
 unfolding root
 root_positive (fin false zero e) p = absurd p
 root_positive (fin false (suc m) e) p = refl
+root_positive nan p = elim p [ ]
+root_positive (inf _) p = elim p [ ]
+root_positive (fin true _ e) p = elim p [ ]
 
 below_2098 : (b : ℕ) → 0 < b → b < 0x7ff0_0000_0000_0000 → val b < 2 ^ 2098
 below_2098 b p l =

@@ -19,10 +19,14 @@ use Rattle.root.proofs.Middle.{s_ge, q_ge, q_lt}
 
 pub units_are : (v : Float) (s : Bool) (a : ℕ) → HasValue v s a (2 ^ 1074) → units v ≡ a
 units_are (fin t m e) s a p = ap (λ (x : ℕ). x / down e) p.1 ∙ mul-div_cancel a (down_pos e)
+units_are nan s a p = elim p [ ]
+units_are (inf _) s a p = elim p [ ]
 
 pub counted_of : (v : Float) (a c : ℕ) → HasValue v false a c → T (counted v)
 counted_of (fin true m e) a c p = absurd (true≢false p.0)
 counted_of (fin false m e) a c p = tt
+counted_of nan a c p = elim p [ ]
+counted_of (inf _) a c p = elim p [ ]
 
 pow_le_back : (a l : ℕ) → 2 ^ a ≤ 2 ^ l → a ≤ l
 pow_le_back a l h = le_of_suc-le-suc (lt_of_not-le (λ (g : suc l ≤ a). lt_irrefl (2 ^ l) (lt_of_lt_of_le (pow-lt g) h)))
@@ -54,6 +58,9 @@ digits (fin false (suc m) e) f c =
     let C = leb (down e) (2 ^ 1074) in
     let D = ltb (suc m * up e) (2 ^ 1024 * down e) in
     place (suc m) e (ltb→lt (suc m) (2 ^ 53) (and_r A B (and_l (A && B) C (and_l (A && B && C) D f)))) (leb→le (down e) (2 ^ 1074) (and_r (A && B) C (and_l (A && B && C) D f)))
+digits nan f c = elim c [ ]
+digits (inf _) f c = elim c [ ]
+digits (fin true _ e) f c = elim c [ ]
 
 -- ---- the pattern of a finite value above zero
 
@@ -69,6 +76,9 @@ positive_fields s x t h p = elim (top_or_less x h) [
 
     sign : (v : Float) (a : ℕ) → HasValue v s a (2 ^ 1074) → T (positive v) → s ≡ false
     sign (fin false m e) a q p = sym q.0
+    sign nan a q p = elim q [ ]
+    sign (inf _) a q p = elim q [ ]
+    sign (fin true m e) a q p = elim p [ ]
 
 no_zero : T (positive (of_bits binary64 0)) → ⊥
 unfolding of_bits
@@ -179,6 +189,9 @@ root_range b p l = (worked b p l).range
 pub from_units : (r : Float) → T (counted r) → to_bits binary64 r ≡ 0 + (size (units r) - 53) * 2 ^ 52 + units r / 2 ^ (size (units r) - 53)
 unfolding to_bits
 from_units (fin false m e) c = refl
+from_units nan c = elim c [ ]
+from_units (inf _) c = elim c [ ]
+from_units (fin true m e) c = elim c [ ]
 
 pub units_inj : (r s : Float) → T (fits binary64 r) → T (counted r) → T (fits binary64 s) → T (counted s) → units r ≡ units s → r ≡ s
 units_inj r s f c g d e =

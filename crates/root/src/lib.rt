@@ -1,4 +1,6 @@
 // The square root of an `f64`, correctly rounded, from its bits and whole numbers.
+#![tactic(auto)]
+
 pub mod side_by_side; // Two square roots side by side, a turn of each in one loop
 
 ghost use Rattle.std.specs.Prelude.{◌≡◌, ◌+◌, ◌-◌, ◌*◌, ◌/◌, ◌^◌, ◌<◌, ◌≤◌, T, if◌then◌else◌, nat_lt};
@@ -50,7 +52,7 @@ fn paired(m: u64, x: u64) -> u64
 }
 
 // The root so far, and what is left of the digits brought down.
-#[derive(Drop)]
+#[derive(Clone, Copy)]
 pub struct Found {
     pub s: u64,
     pub r: u64,

@@ -10,7 +10,7 @@ ghost use Rattle.root.specs.Nearest.{Nearest};
 use crate::{Found, chosen, exponent, paired, pattern, root, significand};
 
 // The roots of two numbers.
-#[derive(Drop)]
+#[derive(Clone, Copy)]
 pub struct RootPair {
     pub first: f64,
     pub second: f64,
@@ -18,7 +18,7 @@ pub struct RootPair {
 
 // One of the two before a turn: the remainder with two digits brought down behind it, and the root with 01 behind it. The next two digits are ready in `down`, the pairs
 // after them in `pairs`, the first at its very top.
-#[derive(Drop)]
+#[derive(Clone, Copy)]
 struct Lane {
     down: u64,
     pairs: u64,
@@ -26,7 +26,7 @@ struct Lane {
     with_01: u64,
 }
 
-#[derive(Drop)]
+#[derive(Clone, Copy)]
 struct FoundPair {
     first: Found,
     second: Found,
@@ -66,7 +66,7 @@ fn turn(lane: Lane) -> Lane
 
 // The root and what is left, without the two digits behind each.
 fn found(lane: Lane) -> Found
-    ensures { result ≡ record { s = lane.with_01 / 4; result = lane.remainder / 4 } }
+    ensures { result ≡ record { s = lane.with_01 / 4; r = lane.remainder / 4 } }
 {
     Found {
         s: lane.with_01 / 4,

@@ -37,8 +37,8 @@ stops m n u vt later e h = e ∙ go (ltb 256 m || ltb 256 n) (eqb u 0) (eqb vt 0
 pub record There (m n u vt : ℕ) : Type 0 where
   pub few : m ≤ 256
   pub narrow : n ≤ 256
-  pub has_u_lem : eqb u 0 ≡ false
-  pub has_vt_lem : eqb vt 0 ≡ false
+  pub has_u : eqb u 0 ≡ false
+  pub has_vt : eqb vt 0 ≡ false
 
 pub there : (m n u vt : ℕ) (later : Answer) {r : Answer} → r ≡ parts m n u vt later → r.answer ≡ 0 → There m n u vt
 there m n u vt later e h = go (ltb 256 m) refl (ltb 256 n) refl (eqb u 0) refl (eqb vt 0) refl (told e h)
@@ -49,15 +49,15 @@ there m n u vt later e h = go (ltb 256 m) refl (ltb 256 n) refl (eqb u 0) refl (
     go false e true f c g d k h = absurd (omega arith)
     go false e false f true g d k h = absurd (omega arith)
     go false e false f false g true k h = absurd (omega arith)
-    go false e false f false g false k h = record { few = ltb-false 256 m e; narrow = ltb-false 256 n f; has_u_lem = g; has_vt_lem = k }
+    go false e false f false g false k h = record { few = ltb-false 256 m e; narrow = ltb-false 256 n f; has_u = g; has_vt = k }
 
 -- and then the later checks decide
 pub goes : (m n u vt : ℕ) (later : Answer) → There m n u vt → later ≡ parts m n u vt later
-goes m n u vt later t = rw (le-ltb 256 m t.few, le-ltb 256 n t.narrow, t.has_u_lem, t.has_vt_lem)
+goes m n u vt later t = rw (le-ltb 256 m t.few, le-ltb 256 n t.narrow, t.has_u, t.has_vt)
 
 whole : (m n u vt l : ℕ) → There m n u vt → l ≡ decomposition_length m n u vt → Sized m n l
 unfolding decomposition_length present
-whole m n u vt l t e = record { few = t.few; narrow = t.narrow; whole = rw (t.has_u_lem, t.has_vt_lem) at e }
+whole m n u vt l t e = record { few = t.few; narrow = t.narrow; whole = rw (t.has_u, t.has_vt) at e }
 
 fitting_sized : (m n u vt : ℕ) (tol : Float) (d x want : ℕ) → There m n u vt → (fitting tol d (decomposition_length m n u vt) x want).answer ≡ 0 → Sized m n d × (x ≡ want)
 fitting_sized m n u vt tol d x want t h =
@@ -69,8 +69,8 @@ module _ (m n u vt : ℕ) (tol : Float) (d x : ℕ) where
   unfolding solve_checks
   solve_sized b h =
       let t = there m n u vt (cond (not (eqb b m)) (refused 5 0) (fitting tol d (decomposition_length m n u vt) x n)) refl h in
-      let has_u = eqb-false u 0 t.has_u_lem in
-      let has_vt = eqb-false vt 0 t.has_vt_lem in
+      let has_u = eqb-false u 0 t.has_u in
+      let has_vt = eqb-false vt 0 t.has_vt in
       elim (ℕ_discrete b m) [
         | yes e ↦
             let w = fitting_sized m n u vt tol d x n t (told (solve_checks_last m n u vt tol d x t.few t.narrow has_u has_vt b e) h) in
@@ -85,4 +85,4 @@ module _ (m n u vt : ℕ) (tol : Float) (d x : ℕ) where
   unfolding inverse_checks
   inverse_sized h =
       let t = there m n u vt (fitting tol d (decomposition_length m n u vt) x (n * m)) refl h in
-      fitting_sized m n u vt tol d x (n * m) t (told (inverse_checks_last m n u vt tol d x t.few t.narrow (eqb-false u 0 t.has_u_lem) (eqb-false vt 0 t.has_vt_lem)) h)
+      fitting_sized m n u vt tol d x (n * m) t (told (inverse_checks_last m n u vt tol d x t.few t.narrow (eqb-false u 0 t.has_u) (eqb-false vt 0 t.has_vt)) h)

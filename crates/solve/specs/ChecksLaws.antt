@@ -6,7 +6,7 @@ use Rattle.answers.specs.Answers.{refused, passed, decomposition_length}
 use Rattle.answers.specs.Early.{EarlyOr11}
 use Rattle.answers.specs.Index.{AtMark}
 use Rattle.answers.specs.IndexLaws.{no_mark}
-use Rattle.answers.specs.OutcomeLaws.{few_early}
+use Rattle.answers.proofs.OutcomeLaws.{few_early}
 use Rattle.answers.specs.declared.Answer.{Answer}
 use Rattle.answers.specs.Checks.{tolerance_good, lengths, fitting}
 use Rattle.answers.specs.ChecksLaws.{lengths_index}

@@ -8,9 +8,5 @@ pub mod PseudoInverseLaws
 pub mod Solve
 pub mod ChecksLaws
 pub mod OneOutcome
-pub mod Result
-pub mod OldContents
 pub mod Index
-pub mod IndexLaws
 pub mod WithoutToleranceCheck
-pub mod Tolerance

@@ -1,5 +1,7 @@
 // The least-squares solution and the pseudo-inverse by a decomposition that `svd` made (document 000's
 // `Svd::solve` and `Svd::pseudo_inverse`).
+#![tactic(auto)]
+
 mod solution; // The least-squares solution by the parts of a decomposition, operation for operation (document 000's `Svd::solve`)
 mod pseudo_inverse_rows; // The pseudo-inverse by the parts of a decomposition, operation for operation (document 000's `Svd::pseudo_inverse`)
 

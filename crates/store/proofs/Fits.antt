@@ -7,7 +7,7 @@ use native.Mathlib.Omega.{arith}
 use lib.ListN.{length}
 use Rattle.store_definition.specs.Store.{Outcome}
 use Rattle.store_definition.specs.Owners.{part, patched, quota_of, start_for, laid, barred}
-use Rattle.store_definition.specs.LaidLaws.{laid_facts, admitted, not_barred, start_least, bounded, minus_is}
+use Rattle.store_definition.proofs.LaidLaws.{laid_facts, admitted, not_barred, start_least, bounded, minus_is}
 
 pub record Fits (owner : ℕ) (list tiles bytes : List ℕ) : Type 0 where
   pub one : owner ≤ 1

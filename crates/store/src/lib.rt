@@ -1,5 +1,7 @@
 // Two owners, 0 and 1, over one store. Each has 32 entries of the list and of the tiles, and as many bytes of the buffer as its quota; its calls are the
 // store's own calls on those parts.
+#![tactic(auto)]
+
 mod loops; // What the store's calls go through: the search for a tile, where a block starts, whether a store is sound, and the moves of bytes, tiles and lengths
 mod add_remove; // What changes in a store (`one_owner`): a block added behind the others, a block gone and those behind it moved down
 pub mod length_fetch; // A store (`one_owner`) read: the length of a tile's block, and the block

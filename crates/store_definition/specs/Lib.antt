@@ -5,15 +5,9 @@ pub mod StartLaws
 pub mod Calls
 pub mod ListLaws
 pub mod MapLaws
-pub mod Sequence
-pub mod KeptLaws
 pub mod OneOutcome
 -- Two owners over one store: what each call does, and that each owner sees what a store of its own would show it.
 pub mod Owners
-pub mod LaidLaws
 pub mod OwnersEvents
 pub mod PartLaws
-pub mod OwnersApart
-pub mod Nobody
 pub mod OwnersOneOutcome
-pub mod Damaged

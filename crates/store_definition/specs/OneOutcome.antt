@@ -1,7 +1,7 @@
 -- The promises of the store's calls determine the outcome: two that satisfy one are the same. Laws only.
 use Rattle.std.specs.Prelude.{◌≡◌, List, ℕ}
 use Rattle.answers.specs.declared.Answer.{Answer}
-use Rattle.answers.specs.OutcomeLaws.{one_outcome}
+use Rattle.answers.proofs.OutcomeLaws.{one_outcome}
 use Rattle.store_definition.specs.Store.{Outcome, set_up, put_of, length_held, fetch_of, drop_of}
 
 module _ (entries : ℕ) (list tiles bytes : List ℕ) where

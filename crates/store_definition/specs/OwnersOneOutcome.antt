@@ -1,7 +1,7 @@
 -- The promises of the owners' calls determine the outcome: two that satisfy one are the same. Laws only.
 use Rattle.std.specs.Prelude.{◌≡◌, List, ℕ}
 use Rattle.answers.specs.declared.Answer.{Answer}
-use Rattle.answers.specs.OutcomeLaws.{one_outcome}
+use Rattle.answers.proofs.OutcomeLaws.{one_outcome}
 use Rattle.store_definition.specs.Store.{Outcome}
 use Rattle.store_definition.specs.Owners.{set_up2, reset, put_for, length_for, fetch_for, drop_for}
 

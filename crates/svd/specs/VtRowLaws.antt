@@ -3,7 +3,7 @@ use Rattle.std.specs.Prelude.{◌≡◌, ℕ, ◌+◌, ◌*◌, ◌≤◌, ◌<�
 use Rattle.std.proofs.Common.{arith}
 use Rattle.grid.specs.TableLaws.{row_end}
 use Rattle.answers.specs.Answers.{least, present, decomposition_length}
-use Rattle.answers.specs.OutcomeLaws.{present_is}
+use Rattle.answers.proofs.OutcomeLaws.{present_is}
 use Rattle.svd.specs.declared.vt_row.Span.{Span}
 use Rattle.svd.specs.declared.vt_row.Span.TheVariants.{At, Missing}
 

@@ -1,4 +1,6 @@
 // The svd of a matrix: the checks, the work array, the sweeps and the sorted result.
+#![tactic(auto)]
+
 pub mod vt_row; // Row j of V^T in an svd result: the part that it is, and the same part by its numbers
 
 ghost use Rattle.std.specs.Prelude.{◌≡◌, cond, ◌+◌, ◌*◌, ◌≤◌, ◌<◌, eqb, length};

@@ -7,7 +7,7 @@ use answers::{decomposition_length, least, present};
 use grid::LARGEST;
 
 // Where a row of V^T stands in a decomposition.
-#[derive(Drop)]
+#[derive(Clone, Copy)]
 pub enum Span {
     At(usize, usize),
     Missing,
@@ -57,7 +57,7 @@ pub fn vt_row<'a>(
 
 // The same part by its numbers, for a caller in C: both are 0 for the empty part.
 #[repr(C)]
-#[derive(Drop)]
+#[derive(Clone, Copy)]
 pub struct Extent {
     pub start: usize,
     pub length: usize,

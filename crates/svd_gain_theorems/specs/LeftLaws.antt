@@ -10,16 +10,16 @@ use Rattle.leaves.specs.declared.Bad.{Bad}
 use Rattle.leaves.specs.declared.Bad.TheVariants.{At, Nowhere}
 use Rattle.answers.specs.Answers.{passed, least, refusal7}
 use Rattle.answers.specs.Early.{Early}
-use Rattle.answers.specs.OutcomeLaws.{few_early}
+use Rattle.answers.proofs.OutcomeLaws.{few_early}
 use Rattle.answers.specs.declared.Answer.{Answer}
 use Rattle.svd_jacobi_svd_tall.specs.JacobiSvdTall.{jacobi}
 use Rattle.svd_sort_svd_descending.specs.Result.{longest, sorted_out}
 use Rattle.svd.specs.Svd.{loaded, checks, ran, svd}
 use Rattle.svd_theorems.specs.Outcome.{Outcome, begun}
-use Rattle.svd_theorems.specs.OutcomeLaws.{begun_long}
+use Rattle.svd_theorems.proofs.OutcomeLaws.{begun_long}
 use Rattle.svd_theorems.specs.OldContents.{svd_checks_few}
 use Rattle.svd_theorems.specs.SweepsOutcome.{RunGives, well, at_mark2, at_mark1, at_limit}
-use Rattle.svd_theorems.specs.SweepsOutcomeLaws.{run_gives, swept_class}
+use Rattle.svd_theorems.proofs.SweepsOutcomeLaws.{run_gives, swept_class}
 use Rattle.svd_gain_theorems.specs.Gained.{Left}
 
 -- a run answers 0, 8, 9 or 10

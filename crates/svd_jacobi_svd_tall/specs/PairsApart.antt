@@ -1,5 +1,5 @@
 -- Pairs of four different columns may change places: neither reads or turns a number of the other. Laws only.
-use Rattle.std.specs.Prelude.{◌≡◌, ◌≢◌, ℕ, ◌+◌, ◌*◌, ◌≤◌, ◌<◌, Float}
+use Rattle.std.specs.Prelude.{◌≡◌, ◌≢◌, ℕ, ◌+◌, ◌≤◌, ◌<◌, Float}
 use Rattle.std.proofs.Math.Path.{refl, sym, ap}
 use Rattle.std.proofs.Common.{◌∙◌, mul_comm, arith, get_or-set_other}
 use Rattle.std.proofs.Math.Bool.{Bool, true, false, cond}

@@ -1,4 +1,6 @@
 // The run of one-sided Jacobi on the work array w of `sweep`: sweeps with mark 1 and the limit, then the values and mark 2.
+#![tactic(auto)]
+
 mod skip_test; // Whether g is at most EPSILON times the root of a * b, with no root where that is clear
 pub mod sweep; // One sweep of one-sided Jacobi over the work array w, which holds the factor u (rows by cols), the factor v (cols by cols), both column by column, and a value for each column
 mod singular_values; // The values of a run of one-sided Jacobi and its columns over them, on the work array w of `sweep`

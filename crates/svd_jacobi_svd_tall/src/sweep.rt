@@ -15,7 +15,7 @@ use root::root;
 use root::side_by_side::roots;
 
 // The sub-Gram of a pair of columns: alpha and beta are their squared norms, gamma their product.
-#[derive(Drop)]
+#[derive(Clone, Copy)]
 pub struct Sums {
     pub alpha: f64,
     pub beta: f64,
@@ -23,7 +23,7 @@ pub struct Sums {
 }
 
 // The pair's rotation turns both factors.
-#[derive(Drop)]
+#[derive(Clone, Copy)]
 pub struct Rotation {
     pub c: f64,
     pub s: f64,
@@ -130,14 +130,14 @@ fn pair(rows: usize, cols: usize, p: usize, q: usize, changed: bool, w: &mut [f6
 // ---- two pairs of four different columns side by side
 
 // The sums of both pairs.
-#[derive(Drop)]
+#[derive(Clone, Copy)]
 struct TwoSums {
     first: Sums,
     second: Sums,
 }
 
 // Their rotations.
-#[derive(Drop)]
+#[derive(Clone, Copy)]
 struct TwoRotations {
     first: Rotation,
     second: Rotation,

@@ -16,7 +16,7 @@ use Rattle.grid.specs.Table.{table, rows}
 use Rattle.grid.specs.TableLaws.{length_table, length_rows, at_table, at_rows}
 use Rattle.grid.specs.CellLaws.{cell, one_place, upto_long}
 use Rattle.answers.specs.Answers.{least, present, decomposition_length}
-use Rattle.answers.specs.OutcomeLaws.{present_is, present_none}
+use Rattle.answers.proofs.OutcomeLaws.{present_is, present_none}
 use Rattle.svd_sort_svd_descending.specs.Rank.{noted, order_noted}
 use Rattle.svd_sort_svd_descending.specs.Result.{longest, value_of, u_factor, v_factor, order_of, sorted_out}
 

@@ -1,4 +1,6 @@
 // The decomposition in its order: values, U and V^T out of the work array into the result.
+#![tactic(auto)]
+
 pub mod order; // The order of document 000's `sort_svd_descending`, by counting
 
 ghost use Rattle.std.specs.Prelude.{◌≡◌, ℕ, ◌+◌, ◌*◌, ◌≤◌, ◌<◌, length};

@@ -2,14 +2,8 @@
 pub mod Document
 pub mod Lengths
 pub mod SweepsOutcome
-pub mod SweepsOutcomeLaws
 pub mod Outcome
 pub mod Order
-pub mod OutcomeLaws
-pub mod Promise
 pub mod Limit
-pub mod Result
-pub mod Flags
 pub mod OldContents
 pub mod Index
-pub mod IndexLaws

@@ -5,7 +5,7 @@ use Rattle.grid.specs.LoopLaws.{rounds_limit}
 use Rattle.grid.specs.Real.{Vec, zeros}
 use Rattle.leaves.specs.Scan.{first_bad}
 use Rattle.answers.specs.Answers.{passed, least, refusal7}
-use Rattle.answers.specs.OutcomeLaws.{Settled, always, by_test}
+use Rattle.answers.proofs.OutcomeLaws.{Settled, always, by_test}
 use Rattle.answers.specs.declared.Answer.{Answer}
 use Rattle.answers.specs.ChecksLaws.{right_limit}
 use Rattle.svd_jacobi_svd_tall.specs.JacobiSvdTall.{going_after, swept, ended, sweeps, finished, jacobi}

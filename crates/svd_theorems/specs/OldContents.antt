@@ -5,7 +5,7 @@ use Rattle.grid.specs.Real.{Vec, zeros}
 use Rattle.leaves.specs.Scan.{first_bad}
 use Rattle.answers.specs.Answers.{passed, refusal7}
 use Rattle.answers.specs.Early.{Early}
-use Rattle.answers.specs.OutcomeLaws.{refuse_few, unless_few, old}
+use Rattle.answers.proofs.OutcomeLaws.{refuse_few, unless_few, old}
 use Rattle.answers.specs.declared.Answer.{Answer}
 use Rattle.answers.specs.Checks.{limit_good}
 use Rattle.answers.specs.ChecksLaws.{lengths_few}

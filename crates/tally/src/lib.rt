@@ -1,4 +1,6 @@
 // Adding a tile to a tally.
+#![tactic(auto)]
+
 ghost use Rattle.std.specs.Prelude.{◌≡◌};
 ghost use Rattle.tally_definition.specs.Tallies.{small, refusal, outcome, none};
 

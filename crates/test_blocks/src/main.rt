@@ -7,6 +7,8 @@
 //   4, rows, columns, count, three parts (kind, length, numbers of eight    the answer and the destination, which holds 238 before
 //      bytes each), the destination's length
 // What is read and what must be written are made by oracle/src/blocks.rs.
+#![tactic(auto)]
+
 ghost use Rattle.std.specs.Prelude.{◌<◌, ◌≤◌, length};
 
 use answers::Answer;
@@ -136,7 +138,7 @@ fn written_front(a: &[u8], n: usize)
 }
 
 // What a part is given by.
-#[derive(Drop)]
+#[derive(Clone, Copy)]
 struct Given {
     kind: usize,
     n: usize,

@@ -1,5 +1,7 @@
 // Replays the oracle's cases from standard input and writes, by function, how many agree: the four numbers, and every number of
 // the arrays afterwards. Each case of symmetric_eigen is run in steps too.
+#![tactic(auto)]
+
 ghost use Rattle.std.specs.Prelude.{◌<◌};
 
 use test_replay_cases::Case;
@@ -70,7 +72,7 @@ fn fitted_in_steps(c: Case, a: &[f64], work: &mut [f64], res: &mut [f64]) -> boo
 // ---- all of them
 
 // What came of a case: the function that it calls, 0 behind the last case, whether it agrees, and whether it does so in steps.
-#[derive(Drop)]
+#[derive(Clone, Copy)]
 struct Outcome {
     function: u64,
     good: bool,

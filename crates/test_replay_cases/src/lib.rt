@@ -1,5 +1,7 @@
 // The oracle's list of cases, read from standard input (oracle/README.md has its form): its words, what a case is, the arrays before a call
 // and the hash of those after it.
+#![tactic(auto)]
+
 pub mod run_case; // One case of the oracle's list: its call on arrays of its lengths, and whether what came back is what the list says
 
 ghost use Rattle.std.specs.Prelude.{◌≡◌, ◌≤◌, true, ◌↔◌};
@@ -46,7 +48,7 @@ fn step(x: u64) -> u64 {
 
 // ---- what a case is
 
-#[derive(Drop)]
+#[derive(Clone, Copy)]
 pub struct Asked {
     pub function: u64,
     pub first: u64,
@@ -56,7 +58,7 @@ pub struct Asked {
     pub fifth: u64,
 }
 
-#[derive(Drop)]
+#[derive(Clone, Copy)]
 pub struct Lengths {
     pub a: u64,
     pub b: u64,
@@ -64,7 +66,7 @@ pub struct Lengths {
     pub result: u64,
 }
 
-#[derive(Drop)]
+#[derive(Clone, Copy)]
 pub struct Inputs {
     pub old: u64,
     pub kind: u64,
@@ -72,7 +74,7 @@ pub struct Inputs {
     pub scale: u64,
 }
 
-#[derive(Drop)]
+#[derive(Clone, Copy)]
 pub struct Wanted {
     pub answer: u64,
     pub place: u64,
@@ -123,7 +125,7 @@ fn read_wanted() -> Wanted {
 }
 
 // A case of the list: its call, the arrays' lengths, what they hold before and what must come back.
-#[derive(Drop)]
+#[derive(Clone, Copy)]
 pub struct Case {
     pub asked: Asked,
     pub lengths: Lengths,

@@ -1,5 +1,9 @@
 // Answers the texts of data/ in turn, each under its file's name.
-use libc::STDOUT_FILENO;
+#![tactic(auto)]
+
+use std::fs::OpenOptions;
+use std::os::fd::AsRawFd;
+use std::rt::Files;
 use text_tiles_definition::Series;
 
 // As in `tiles`.
@@ -20,53 +24,49 @@ fn answer(input: i32) {
     let s = series(input);
     let mut text = [0u8; 512];
     let length = text_tiles::report(s, &mut text);
-    io::write_all(STDOUT_FILENO, &text[..length]);
+    io::write_all(1, &text[..length]);
 }
 
-fn file(name: &[u8]) {
-    io::write_all(STDOUT_FILENO, b"-- ");
-    io::write_all(STDOUT_FILENO, name);
-    io::write_all(STDOUT_FILENO, b"\n");
-    let fd = os::open_read(name);
-    if fd < 0 {
-        os::fail(name);
-        return;
-    }
-    answer(fd);
-    libc::close(fd);
+fn file(rt: &HostRuntime, name: &str) -> std::io::Result<()> {
+    io::write_all(1, b"-- ");
+    io::write_all(1, name.as_bytes());
+    io::write_all(1, b"\n");
+    let text = rt.open_file(OpenOptions::new().read(true), name)?;
+    answer(text.as_raw_fd());
+    Ok(())
 }
 
-fn whole() {
-    file(b"empty");
-    file(b"one");
-    file(b"all_answers");
-    file(b"most_is_first");
-    file(b"pieces");
+fn whole(rt: &HostRuntime) -> std::io::Result<()> {
+    file(rt, "empty")?;
+    file(rt, "one")?;
+    file(rt, "all_answers")?;
+    file(rt, "most_is_first")?;
+    file(rt, "pieces")
 }
 
-fn refused() {
-    file(b"answer_16");
-    file(b"passes_15361");
-    file(b"number_2_to_64");
+fn refused(rt: &HostRuntime) -> std::io::Result<()> {
+    file(rt, "answer_16")?;
+    file(rt, "passes_15361")?;
+    file(rt, "number_2_to_64")
 }
 
-fn other() {
-    file(b"leading_zero");
-    file(b"passes_leading_zero");
-    file(b"two_spaces");
-    file(b"space_before");
-    file(b"space_behind");
-    file(b"carriage_return");
-    file(b"no_passes");
-    file(b"three_numbers");
-    file(b"empty_line");
-    file(b"sign");
-    file(b"no_last_line_feed");
-    file(b"zero_byte");
+fn other(rt: &HostRuntime) -> std::io::Result<()> {
+    file(rt, "leading_zero")?;
+    file(rt, "passes_leading_zero")?;
+    file(rt, "two_spaces")?;
+    file(rt, "space_before")?;
+    file(rt, "space_behind")?;
+    file(rt, "carriage_return")?;
+    file(rt, "no_passes")?;
+    file(rt, "three_numbers")?;
+    file(rt, "empty_line")?;
+    file(rt, "sign")?;
+    file(rt, "no_last_line_feed")?;
+    file(rt, "zero_byte")
 }
 
-fn main() {
-    whole();
-    refused();
-    other();
+fn main(rt: HostRuntime) -> std::io::Result<()> {
+    whole(&rt)?;
+    refused(&rt)?;
+    other(&rt)
 }

@@ -1,6 +1,8 @@
 // Reads numbers by their bits, 16 hexadecimal digits each. For a line with one it writes the root, for a line with two their hypot, by its bits too, or
 // "nan": the scope's rule where a blank stands between them, and the correctly rounded one where a plus does. Where < or > stands there it writes the root of the first or
 // of the second, worked out beside the other's. What is read and what must be written are made by tests/vectors/make.rs and tests/vectors/hypot2.py.
+#![tactic(auto)]
+
 ghost use Rattle.std.specs.Prelude.{◌+◌, ◌≤◌, ◌<◌, length};
 
 // The value of a hexadecimal digit.

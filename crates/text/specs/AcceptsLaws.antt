@@ -10,7 +10,7 @@ use Rattle.std.proofs.lemmas.List.{get_or_at}
 use Rattle.grid.specs.Loop.{every}
 use Rattle.grid.specs.LoopLaws.{below_cases, both, every_at, every_all}
 use Rattle.octets.specs.Bytes.{byte}
-use Rattle.octets.specs.BytesLaws.{parts, one_of, take_more, part_length}
+use Rattle.octets.proofs.BytesLaws.{parts, one_of, take_more, part_length}
 use Rattle.text.specs.Writing.{digits, number, joined, separator, group, lines, word_of, writing}
 use Rattle.text.specs.Reading.{good, bad, value_at, number_at, limit_in, head_of, head, digit_at, group_at, word_at, table, words_read, reading_of, reading}
 use Rattle.text.specs.Accepts.{Words, Written}

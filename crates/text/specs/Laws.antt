@@ -5,7 +5,7 @@ use Rattle.std.proofs.Math.Nat.{pow-le-pow_right}
 use Rattle.text.specs.Writing.{glyph, digits}
 use Rattle.text.specs.Reading.{value, value_at, digit_at, horner}
 use Rattle.octets.specs.Bytes.{byte}
-use Rattle.octets.specs.BytesLaws.{parts, one_of, take_more, part_length}
+use Rattle.octets.proofs.BytesLaws.{parts, one_of, take_more, part_length}
 use Rattle.grid.specs.Loop.{every}
 use Rattle.grid.specs.LoopLaws.{below_cases, every_at}
 

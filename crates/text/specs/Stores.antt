@@ -6,7 +6,7 @@ use Rattle.std.proofs.Math.Numerals.{add-one}
 use Rattle.std.proofs.lemmas.List.Edits.{sets}
 use Rattle.text.specs.Writing.{glyph, digits, places_from, places, number, joined, separator, group, lines, written, bits_at, shown, first_line, answer_text}
 use Rattle.octets.specs.Bits.{float}
-use Rattle.octets.specs.StoreLaws.{sets_append}
+use Rattle.octets.proofs.StoreLaws.{sets_append}
 use Rattle.text.specs.Reading.{word_at, table}
 use Rattle.text.specs.Laws.{digits_length}
 use Rattle.text.specs.AcceptsLaws.{table_length, lines_length}

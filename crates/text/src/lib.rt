@@ -1,4 +1,6 @@
 // The text of the program eigtext: its bytes and digits, and its first line. A place of a text is looked at by a call that minds the end.
+#![tactic(auto)]
+
 pub mod read; // The reader of the program eigtext's input
 pub mod write; // The writer of the program eigtext's answer
 
@@ -8,21 +10,21 @@ ghost use Rattle.octets.specs.Bytes.{byte};
 ghost use Rattle.text.specs.Reading.{value, number_at, limit_of, head};
 
 // What a text gives: the size and the limit of its first line, its numbers standing in the matrix, or nothing.
-#[derive(Drop)]
+#[derive(Clone, Copy)]
 pub enum Reading {
     Good { n: usize, limit: usize },
     Bad,
 }
 
 // A decimal number that was read, and the place behind the byte that ended it.
-#[derive(Drop)]
+#[derive(Clone, Copy)]
 enum Number {
     Ended { value: usize, next: usize },
     NoNumber,
 }
 
 // A first line that was read, and the place behind it.
-#[derive(Drop)]
+#[derive(Clone, Copy)]
 pub enum Head {
     Line { n: usize, limit: usize, next: usize },
     NoLine,

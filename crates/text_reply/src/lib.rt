@@ -1,4 +1,6 @@
 // Text in, text out: what eigtext does, on slices.
+#![tactic(auto)]
+
 ghost use Rattle.std.specs.Prelude.{◌≡◌, ◌*◌, ◌≤◌, length, take};
 ghost use Rattle.text.specs.Writing.{written};
 ghost use Rattle.eigen_symmetric_eigen.specs.SymmetricEigen.{eigen};

@@ -1,5 +1,7 @@
 // What the program `tiles` does, on slices: a piece of its input, and its report. No contract can say what is read or written, so the
 // loop over the pieces stands in the programs; `heard_tallied` (tiletext) says what it comes to.
+#![tactic(auto)]
+
 pub mod read; // Reads a text of tiles byte by byte, in pieces of any length
 mod write; // Writes the report on a tally: its figures, one a line, and `end`
 

@@ -1,6 +1,7 @@
 // Reads a line per tile from standard input, up to the first line that is none or is refused, and writes the figures of the series to
 // standard output.
-use libc::{STDIN_FILENO, STDOUT_FILENO};
+#![tactic(auto)]
+
 use text_tiles_definition::Series;
 
 // The input's pieces up to the series' end. The bound is none that an input has: it says that this ends.
@@ -18,8 +19,8 @@ fn series(input: i32) -> Series {
 }
 
 fn main() {
-    let s = series(STDIN_FILENO);
+    let s = series(0);
     let mut text = [0u8; 512];
     let length = text_tiles::report(s, &mut text);
-    io::write_all(STDOUT_FILENO, &text[..length]);
+    io::write_all(1, &text[..length]);
 }

@@ -9,7 +9,6 @@ use mir.Facts.{to_z-of_z}
 use lib.IntN.{ℤ}
 use lib.Ieee.{Float, binary64, of_int}
 use Rattle.grid.specs.Real.{Vec}
-use Rattle.grid.specs.CellLaws.{cell}
 use Rattle.grid.specs.Cell.{entry, put_entry}
 use Rattle.answers.specs.Answers.{done}
 use Rattle.covariance.specs.WholeNumbers.{held}

@@ -1,12 +1,12 @@
 -- Two pairs of four different columns side by side, two rows of pairs that are gone through together, and rows two by two. Laws only.
-use mathlib.Core.Path.{◌≡◌, refl, sym, ap, ◌∙◌}
-use mathlib.Core.Bool.{Bool, true, false, cond}
-use Prim.Native.Nat.{ℕ, ◌+◌, ◌*◌, ◌-◌, ◌≤◌, ◌<◌}
+use mathlib.Core.Path.{◌≡◌, sym, ap, ◌∙◌}
+use mathlib.Core.Bool.{Bool, true, false}
+use Prim.Native.Nat.{ℕ, ◌+◌, ◌-◌, ◌≤◌, ◌<◌}
 use native.Mathlib.Nat.{le_antisymm, eq-or-lt_of_le}
 use mathlib.Core.Logic.{⊎_elim}
 use native.Mathlib.Omega.{arith}
 use Rattle.grid.specs.Loop.{upto}
-use Rattle.grid.specs.LoopLaws.{upto_none, upto_more, start, more, next, done}
+use Rattle.grid.specs.LoopLaws.{upto_more, start, more, next}
 use Rattle.grid.specs.Real.{Vec}
 use Rattle.svd_jacobi_svd_tall.specs.declared.sweep.Sums.{Sums}
 use Rattle.svd_jacobi_svd_tall.specs.Sweep.{u_at, gram, skipped, rotation_of, pair_done, pairs_of}

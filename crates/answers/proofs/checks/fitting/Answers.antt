@@ -1,0 +1,12 @@
+use mathlib.Core.Path.{◌∙◌}
+use Rattle.answers.specs.Checks.{fitting}
+use Rattle.std.proofs.Common.{ap, not}
+use Rattle.answers.proofs.checks.fitting.Goals as goal
+
+pub returns-then-not-tolerance_good : goal.returns-then-not-tolerance_good
+unfolding fitting
+returns-then-not-tolerance_good c = c.refused.ensures ∙ rw (← c.tolerance_good.ensures, (ap not c.if-not-tolerance_good.true))
+
+pub returns : goal.returns
+unfolding fitting
+returns c = c.lengths.ensures ∙ rw (← c.tolerance_good.ensures, (ap not c.if-not-tolerance_good.false))

@@ -1,0 +1,15 @@
+use mathlib.Core.Path.{refl}
+use native.Mathlib.Omega.{arith}
+use Rattle.grid.specs.LoopLaws.{start, next, done}
+use Rattle.eigen_tred2_definition.specs.Tred2.{clear}
+use Rattle.eigen_tred2.proofs.householder.clear.Goals as goal
+
+pub loop-j-init : goal.loop-j-init
+loop-j-init c = (omega arith, refl, start _ _ _)
+
+pub loop-j-preserved : goal.loop-j-preserved
+loop-j-preserved c = (omega arith, omega arith, next _ _ _ _ (omega arith) c.loop-j.invariant.2 (rw (← c.put1.ensures)))
+
+pub returns : goal.returns
+unfolding clear
+returns c = done _ _ _ (omega arith) (omega arith) c.loop-j.invariant.2

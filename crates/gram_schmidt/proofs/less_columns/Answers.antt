@@ -1,0 +1,15 @@
+use mathlib.Core.Path.{refl}
+use native.Mathlib.Omega.{arith}
+use Rattle.grid.specs.LoopLaws.{start, next, done}
+use Rattle.gram_schmidt.specs.Gram.{less_columns}
+use Rattle.gram_schmidt.proofs.less_columns.Goals as goal
+
+pub loop-i-init : goal.loop-i-init
+loop-i-init c = (omega arith, refl, refl, start _ _ _)
+
+pub loop-i-preserved : goal.loop-i-preserved
+loop-i-preserved c = (omega arith, omega arith, omega arith, next _ _ _ _ (omega arith) c.loop-i.invariant.3 (rw (← c.column_of.ensures, ← c.dot-proj.ensures, ← c.lessen.ensures)))
+
+pub returns : goal.returns
+unfolding less_columns
+returns c = done _ _ _ (omega arith) (omega arith) c.loop-i.invariant.3

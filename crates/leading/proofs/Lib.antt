@@ -1,0 +1,2 @@
+-- Laws and theorems: what follows of the definitions in specs/.
+pub mod Result

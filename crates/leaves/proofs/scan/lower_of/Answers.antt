@@ -1,0 +1,12 @@
+use native.Mathlib.Omega.{arith}
+use borrow.Author.Tests.{le-leb, lt-leb}
+use Rattle.leaves.specs.Scan.{lower_of}
+use Rattle.leaves.proofs.scan.lower_of.Goals as goal
+
+pub returns-then-p : goal.returns-then-p
+unfolding lower_of
+returns-then-p c = rw (le-leb c.args.p.j c.args.p.i (omega arith))
+
+pub returns : goal.returns
+unfolding lower_of
+returns c = rw (lt-leb c.args.p.j c.args.p.i (omega arith))

@@ -1,0 +1,12 @@
+use mathlib.Core.Path.{◌≡◌}
+use Prim.Native.Nat.{◌-◌, ◌≤◌}
+use lib.ListN.{length}
+use Rattle.grid.specs.Loop.{upto}
+use Rattle.matvec.specs.Strips.{copy_strip_step}
+use Rattle.matvec.proofs.weighted_rows.store.Given as goal
+
+abbrev pub invariant-loop-k : goal.invariant-loop-k
+invariant-loop-k l = (l.k ≤ 16) × (length l.w ≡ length l.initial.w) × (l.w ≡ upto (copy_strip_step l.y) 0 l.k l.initial.w)
+
+abbrev pub decreases-loop-k : goal.decreases-loop-k
+decreases-loop-k l = 16 - l.k

@@ -1,0 +1,3 @@
+-- The laws that reading and writing numbers as bytes rest on.
+pub mod BytesLaws
+pub mod StoreLaws

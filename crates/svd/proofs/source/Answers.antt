@@ -1,0 +1,19 @@
+use native.Mathlib.Omega.{arith}
+use borrow.Author.Tests.{lt-ltb, le-ltb}
+use Rattle.svd.specs.Svd.{source}
+use Rattle.svd_sort_svd_descending.specs.ResultSizes.{wide_longest, wide_least, tall_longest, tall_least}
+use Rattle.svd.proofs.source.Goals as goal
+
+pub entry-requires : goal.entry-requires
+entry-requires c = omega (arith, wide_longest _ _ c.if-m-n.true, wide_least _ _ c.if-m-n.true)
+
+pub returns-then-m-n : goal.returns-then-m-n
+unfolding source
+returns-then-m-n c = rw (lt-ltb _ _ c.if-m-n.true) c.entry.ensures
+
+pub entry-requires-2 : goal.entry-requires-2
+entry-requires-2 c = omega (arith, tall_longest _ _ c.if-m-n.false, tall_least _ _ c.if-m-n.false)
+
+pub returns : goal.returns
+unfolding source
+returns c = rw (le-ltb _ _ c.if-m-n.false) c.entry-2.ensures

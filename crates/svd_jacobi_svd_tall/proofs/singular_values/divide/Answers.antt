@@ -1,0 +1,15 @@
+use mathlib.Core.Path.{refl}
+use native.Mathlib.Omega.{arith}
+use Rattle.grid.specs.LoopLaws.{start, next, done}
+use Rattle.svd_jacobi_svd_tall.specs.SingularValues.{divided}
+use Rattle.svd_jacobi_svd_tall.proofs.singular_values.divide.Goals as goal
+
+pub loop-i-init : goal.loop-i-init
+loop-i-init c = (omega arith, refl, start _ _ _)
+
+pub loop-i-preserved : goal.loop-i-preserved
+loop-i-preserved c = (omega arith, omega arith, next _ _ _ _ (omega arith) c.loop-i.invariant.2 (rw (← c.at1.ensures, ← c.put1.ensures)))
+
+pub returns : goal.returns
+unfolding divided
+returns c = done _ _ _ (omega arith) (omega arith) c.loop-i.invariant.2
