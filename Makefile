@@ -1,4 +1,4 @@
-# make               the archive and the header into dist/: proves the crate crewelmarsh and what it uses, no program and no must-fail edit
+# make               the archive and the header into dist/: proves the crate crewelmarsh_c and what it uses, no program and no must-fail edit
 # make test          the gate, what .ci/run calls: what is quick to look at; a plain rt ci, which proves everything that it has not passed on this machine as it
 #                    stands; over what it proved the archive, the C tests, the example. rt's line, 'N passed, 0 failed', is the last, if all of it passed
 # make example       the examples in C, built and run: a codec, a decode loop, one that keeps 8 of 256 components

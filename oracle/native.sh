@@ -5,5 +5,5 @@
 set -e
 object=$1
 place=$(dirname "$object")/native
-oracle/module.sh "$place" crewelmarsh
+oracle/module.sh "$place" crewelmarsh_c
 oracle/compile.sh "$place/module.ll" "$object"

@@ -1,15 +1,15 @@
 #!/bin/sh
-# archive.sh [BEGAN]: the archive of the crate crewelmarsh, which is proved as it is built, into crates/crewelmarsh/out/ and from there into dist/. What rattle says goes
-# into build/archive.log.
+# archive.sh [BEGAN]: the archive, of the crate crewelmarsh_c, which is proved as it is built, into crates/crewelmarsh_c/out/ and from there into dist/libcrewelmarsh.a. What
+# rattle says goes into build/archive.log.
 #
 # rt lib builds it: over the libraries that checks keep in out/, and what they have not, it proves first. It takes none of those that rt ci leaves there. So the gate
 # names BEGAN, a file that it made right before its rt ci: where each library below has been put there since, the archive is built over those (tools/rattle.sh), and the
-# crate of the entries alone is proved once more. Where one is older, or that build fails, it is left to rt lib.
+# crate of the exports alone is proved once more. Where one is older, or that build fails, it is left to rt lib.
 #
 # Both build for every x86-64 (`--cpu=x86-64`): what rt takes unasked is a later one.
 set -u
 CDPATH='' cd -- "$(dirname "$0")/.." || exit 2
-RT=${RT:-rt} began=${1:-} crate=crewelmarsh cpu=x86-64 log=build/archive.log
+RT=${RT:-rt} began=${1:-} crate=crewelmarsh_c cpu=x86-64 log=build/archive.log
 archive=crates/$crate/out/lib$crate.a
 mkdir -p build && rm -f "$archive" || exit 2
 
@@ -41,4 +41,4 @@ else
     echo 'archive: built by rt lib'
 fi
 grep '^logic=' $log | tail -n 1
-mkdir -p dist && cp "$archive" dist/
+mkdir -p dist && cp "$archive" dist/libcrewelmarsh.a

@@ -3,7 +3,7 @@
 #
 #   crates           lines of crates.txt
 #   edits            must-fail edits, where rt looks for them
-#   entries          `extern "C"` functions of the crate crewelmarsh, and names of the header
+#   entries          `extern "C"` functions of the crate crewelmarsh_c, and names of the header
 #   safety-only      `pub` functions of any crate with no `ensures`: docs/PROMISES.md names them
 #   labels           theorems: the different N of the statements tN_NAME of the crate promises, in specs/ or in proofs/
 #   statements       those statements
@@ -33,7 +33,7 @@ holds crates "$(grep -c '^[A-Za-z_]' crates.txt)"
 holds edits "$(ls crates/*/must-fail/*.edit | wc -l | tr -d ' ')"
 holds edits-outside "$(ls edits/*/*.edit | wc -l | tr -d ' ')"
 holds lazy-versions "$(ls tests/lazy/*.patch | wc -l | tr -d ' ')"
-holds entries "$(cat crates/crewelmarsh/src/*.rt | grep -c '^pub extern "C" fn ')"
+holds entries "$(cat crates/crewelmarsh_c/src/*.rt | grep -c '^pub extern "C" fn ')"
 holds entries "$(grep -c '^#define crewelmarsh_[a-z_]* CREWELMARSH_NAME' include/crewelmarsh.h)"
 # shellcheck disable=SC2016
 holds safety-only "$(find crates -path '*/src/*.rt' | sort | xargs awk '

@@ -1,6 +1,6 @@
 #!/bin/sh
 # proved.sh: whether rt proved the archive with no axiom, by the line that rattle writes behind each crate: `logic=proved functions=.. sum=..`. The crates are
-# crewelmarsh, promises, and all that these use. Of each, what the gate's rt ci said (build/gate.log) has one such line, with no `axioms=` and no `foreign=`, and with the
+# crewelmarsh_c, promises, and all that these use. Of each, what the gate's rt ci said (build/gate.log) has one such line, with no `axioms=` and no `foreign=`, and with the
 # `sum=`, of the logic that the proof was checked in, of the kit at hand, a line of tools/kit; or rt says that it kept the crate of an earlier run here, with the same
 # kit, of the same files over the same libraries: then it writes no line, and of what could rest on C it may use nothing: no library but those of crates.txt, and of std
 # `std::num` alone (rt ci refuses C functions of a crate's own). The line of the archive is in build/archive.log (tools/archive.sh), and has a `target=`, and no `cpu=`: it is
@@ -20,11 +20,11 @@ used=$(sed 's/#.*//' crates.txt | awk '
         seen[n] = 1; print n; k = split(uses[n], w, " "); for (i = 1; i <= k; i++) reach(w[i])
     }
     END {
-        if (!("crewelmarsh" in known && "promises" in known)) exit 1
-        reach("crewelmarsh"); reach("promises")
+        if (!("crewelmarsh_c" in known && "promises" in known)) exit 1
+        reach("crewelmarsh_c"); reach("promises")
         for (n in seen) { k = split(uses[n], w, " "); for (i = 1; i <= k; i++) if (!(w[i] in known)) { print n " uses " w[i] >"/dev/stderr"; exit 1 } }
     }') || {
-    echo 'proved: crates.txt lacks crewelmarsh or promises, or a crate that they reach uses a library of the kit' >&2
+    echo 'proved: crates.txt lacks crewelmarsh_c or promises, or a crate that they reach uses a library of the kit' >&2
     exit 1
 }
 for crate in $used; do
@@ -57,5 +57,5 @@ line=$(grep '^logic=' $made | tail -n 1) # above it may stand those of libraries
 holds "the archive, by $made," "$line"
 case $line in *' target='*) ;; *) echo "proved: the line of $made has no target=, so it is of no archive: $line" >&2; exit 1 ;; esac
 case $line in *' cpu='*) echo "proved: the archive is not for every x86-64: $line" >&2; exit 1 ;; esac
-[ -s crates/crewelmarsh/out/libcrewelmarsh.a ] || { echo 'proved: there is no crates/crewelmarsh/out/libcrewelmarsh.a' >&2; exit 1; }
-echo "proved: crewelmarsh, promises and what they use, $count crates, $kept of them kept of earlier runs: no axiom, logic $sum"
+[ -s crates/crewelmarsh_c/out/libcrewelmarsh_c.a ] || { echo 'proved: there is no crates/crewelmarsh_c/out/libcrewelmarsh_c.a' >&2; exit 1; }
+echo "proved: crewelmarsh_c, promises and what they use, $count crates, $kept of them kept of earlier runs: no axiom, logic $sum"

@@ -11,14 +11,14 @@ tree=$place/another-folder/crewelmarsh
 mkdir -p "$tree"
 cp -R tools "$tree/"
 
-# crewelmarsh, what it uses, and all that this uses
+# crewelmarsh_c, what it uses, and all that this uses
 used=$(sed 's/#.*//' crates.txt | awk '
     { sub(/( +staticlib)? *:/, " "); $0 = $0; known[$1] = 1; for (i = 2; i <= NF; i++) uses[$1] = uses[$1] " " $i }
     function reach(n,   w, k, i) {
         if (!(n in known) || n in seen) return
         seen[n] = 1; print n; k = split(uses[n], w, " "); for (i = 1; i <= k; i++) reach(w[i])
     }
-    END { reach("crewelmarsh") }')
+    END { reach("crewelmarsh_c") }')
 for crate in $used; do
     grep -E "^$crate( +staticlib)? *:" crates.txt >>"$tree/crates.txt"
     find "crates/$crate" \( -name must-fail -o -name out \) -prune -o -type f -print | tar -c -T - -f - | tar -x -C "$tree" -f -

@@ -1,6 +1,6 @@
 // The entries that a C codec calls. Each hands on to the function of its name and keeps its promise. A slice is a pointer and
 // a length in C; what comes back is a struct of the header, of up to four numbers, or one number. The number at a name's end is the
-// header's major version, so that a program built with a header of another one doesn't link.
+// header's major version, so that a program built with a header of another one doesn't link. `crewelmarsh_c` exports them.
 #![tactic(auto)]
 
 ghost use Rattle.std.specs.Prelude.{◌≡◌};
@@ -26,8 +26,7 @@ use eigen_steps::EigenRun;
 use svd::vt_row::Extent;
 use tally_definition::Tally;
 
-#[unsafe(no_mangle)]
-pub extern "C" fn crewelmarsh_symmetric_eigen_abi5(
+pub fn crewelmarsh_symmetric_eigen_abi5(
     n: usize,
     limit: usize,
     edition: usize,
@@ -42,8 +41,7 @@ pub extern "C" fn crewelmarsh_symmetric_eigen_abi5(
 
 // ---- the same one pass at a time
 
-#[unsafe(no_mangle)]
-pub extern "C" fn crewelmarsh_eigen_start_abi5(
+pub fn crewelmarsh_eigen_start_abi5(
     n: usize,
     limit: usize,
     edition: usize,
@@ -56,23 +54,13 @@ pub extern "C" fn crewelmarsh_eigen_start_abi5(
     EigenRun::start(n, limit, edition, matrix, work, res)
 }
 
-#[unsafe(no_mangle)]
-pub extern "C" fn crewelmarsh_eigen_step_abi5(
-    run: EigenRun,
-    work: &mut [f64],
-    res: &mut [f64],
-) -> EigenRun
+pub fn crewelmarsh_eigen_step_abi5(run: EigenRun, work: &mut [f64], res: &mut [f64]) -> EigenRun
     ensures { (result, work.new, res.new) ≡ stepped run work.old res.old }
 {
     run.step(work, res)
 }
 
-#[unsafe(no_mangle)]
-pub extern "C" fn crewelmarsh_eigen_finish_abi5(
-    run: EigenRun,
-    work: &mut [f64],
-    res: &mut [f64],
-) -> EigenRun
+pub fn crewelmarsh_eigen_finish_abi5(run: EigenRun, work: &mut [f64], res: &mut [f64]) -> EigenRun
     ensures { (result, work.new, res.new) ≡ finished run work.old res.old }
 {
     run.finish(work, res)
@@ -80,8 +68,7 @@ pub extern "C" fn crewelmarsh_eigen_finish_abi5(
 
 // ---- the leading pairs alone
 
-#[unsafe(no_mangle)]
-pub extern "C" fn crewelmarsh_lanczos_abi5(
+pub fn crewelmarsh_lanczos_abi5(
     n: usize,
     k: usize,
     limit: usize,
@@ -97,13 +84,7 @@ pub extern "C" fn crewelmarsh_lanczos_abi5(
 }
 
 // The same layout from an eigen result.
-#[unsafe(no_mangle)]
-pub extern "C" fn crewelmarsh_leading_abi5(
-    n: usize,
-    k: usize,
-    res: &[f64],
-    out: &mut [f64],
-) -> Answer
+pub fn crewelmarsh_leading_abi5(n: usize, k: usize, res: &[f64], out: &mut [f64]) -> Answer
     ensures { (result, out.new) ≡ leading n k res.now out.old }
 {
     leading::leading(n, k, res, out)
@@ -111,8 +92,7 @@ pub extern "C" fn crewelmarsh_leading_abi5(
 
 // ---- the others
 
-#[unsafe(no_mangle)]
-pub extern "C" fn crewelmarsh_svd_abi5(
+pub fn crewelmarsh_svd_abi5(
     m: usize,
     n: usize,
     want_u: usize,
@@ -127,8 +107,7 @@ pub extern "C" fn crewelmarsh_svd_abi5(
     svd::svd(m, n, want_u, want_vt, limit, matrix, work, res)
 }
 
-#[unsafe(no_mangle)]
-pub extern "C" fn crewelmarsh_vt_row_extent_abi5(
+pub fn crewelmarsh_vt_row_extent_abi5(
     m: usize,
     n: usize,
     has_u: usize,
@@ -141,8 +120,7 @@ pub extern "C" fn crewelmarsh_vt_row_extent_abi5(
     svd::vt_row::vt_row_extent(m, n, has_u, has_vt, result_len, j)
 }
 
-#[unsafe(no_mangle)]
-pub extern "C" fn crewelmarsh_solve_abi5(
+pub fn crewelmarsh_solve_abi5(
     m: usize,
     n: usize,
     has_u: usize,
@@ -166,8 +144,7 @@ pub extern "C" fn crewelmarsh_solve_abi5(
     )
 }
 
-#[unsafe(no_mangle)]
-pub extern "C" fn crewelmarsh_pseudo_inverse_abi5(
+pub fn crewelmarsh_pseudo_inverse_abi5(
     m: usize,
     n: usize,
     has_u: usize,
@@ -181,13 +158,7 @@ pub extern "C" fn crewelmarsh_pseudo_inverse_abi5(
     solve::pseudo_inverse(m, n, has_u, has_vt, tolerance, decomposition, answer)
 }
 
-#[unsafe(no_mangle)]
-pub extern "C" fn crewelmarsh_qr_q_abi5(
-    m: usize,
-    k: usize,
-    matrix: &[f64],
-    answer: &mut [f64],
-) -> Answer
+pub fn crewelmarsh_qr_q_abi5(m: usize, k: usize, matrix: &[f64], answer: &mut [f64]) -> Answer
     ensures { (result, answer.new) ≡ qr_q m k matrix.now answer.old }
 {
     qr_q::qr_q(m, k, matrix, answer)
@@ -195,22 +166,19 @@ pub extern "C" fn crewelmarsh_qr_q_abi5(
 
 // ---- transform blocks
 
-#[unsafe(no_mangle)]
-pub extern "C" fn crewelmarsh_block_check_abi5(block: &[u8]) -> Shape
+pub fn crewelmarsh_block_check_abi5(block: &[u8]) -> Shape
     ensures { result ≡ shape_of block.now }
 {
     block_read::lookup::shape_of(block)
 }
 
-#[unsafe(no_mangle)]
-pub extern "C" fn crewelmarsh_block_find_abi5(own: &[u8], main_block: &[u8], kind: usize) -> Found
+pub fn crewelmarsh_block_find_abi5(own: &[u8], main_block: &[u8], kind: usize) -> Found
     ensures { result ≡ found own.now main_block.now kind }
 {
     block_read::lookup::locate(own, main_block, kind)
 }
 
-#[unsafe(no_mangle)]
-pub extern "C" fn crewelmarsh_block_copy_abi5<'a>(
+pub fn crewelmarsh_block_copy_abi5<'a>(
     own: &'a [u8],
     main_block: &'a [u8],
     kind: usize,
@@ -221,8 +189,7 @@ pub extern "C" fn crewelmarsh_block_copy_abi5<'a>(
     block_read::lookup::copy(own, main_block, kind, out)
 }
 
-#[unsafe(no_mangle)]
-pub extern "C" fn crewelmarsh_block_length_abi5(
+pub fn crewelmarsh_block_length_abi5(
     rows: usize,
     columns: usize,
     parts: usize,
@@ -235,8 +202,7 @@ pub extern "C" fn crewelmarsh_block_length_abi5(
     block_write::length_of(rows, columns, parts, kind1, kind2, kind3)
 }
 
-#[unsafe(no_mangle)]
-pub extern "C" fn crewelmarsh_block_write_abi5(
+pub fn crewelmarsh_block_write_abi5(
     rows: usize,
     columns: usize,
     parts: usize,
@@ -255,8 +221,7 @@ pub extern "C" fn crewelmarsh_block_write_abi5(
     )
 }
 
-#[unsafe(no_mangle)]
-pub extern "C" fn crewelmarsh_covariance_abi5(
+pub fn crewelmarsh_covariance_abi5(
     n: usize,
     count: usize,
     samples: &[i16],
@@ -267,13 +232,7 @@ pub extern "C" fn crewelmarsh_covariance_abi5(
     covariance::covariance(n, count, samples, matrix)
 }
 
-#[unsafe(no_mangle)]
-pub extern "C" fn crewelmarsh_sums_abi5(
-    n: usize,
-    count: usize,
-    samples: &[i16],
-    out: &mut [f64],
-) -> Answer
+pub fn crewelmarsh_sums_abi5(n: usize, count: usize, samples: &[i16], out: &mut [f64]) -> Answer
     ensures { (result, out.new) ≡ sums n count samples.now out.old }
 {
     covariance_sums::sums(n, count, samples, out)
@@ -281,8 +240,7 @@ pub extern "C" fn crewelmarsh_sums_abi5(
 
 // ---- the store of two owners
 
-#[unsafe(no_mangle)]
-pub extern "C" fn crewelmarsh_store_setup_abi5(
+pub fn crewelmarsh_store_setup_abi5(
     quota0: usize,
     quota1: usize,
     list: &mut [usize],
@@ -294,19 +252,13 @@ pub extern "C" fn crewelmarsh_store_setup_abi5(
     store::quotas::set_up(quota0, quota1, list, tiles, bytes)
 }
 
-#[unsafe(no_mangle)]
-pub extern "C" fn crewelmarsh_store_reset_abi5(
-    list: &mut [usize],
-    tiles: &[u16],
-    bytes: &[u8],
-) -> Answer
+pub fn crewelmarsh_store_reset_abi5(list: &mut [usize], tiles: &[u16], bytes: &[u8]) -> Answer
     ensures { (result, list.new) ≡ reset list.old tiles.now bytes.now }
 {
     store::quotas::reset(list, tiles, bytes)
 }
 
-#[unsafe(no_mangle)]
-pub extern "C" fn crewelmarsh_store_put_abi5(
+pub fn crewelmarsh_store_put_abi5(
     owner: usize,
     list: &mut [usize],
     tiles: &mut [u16],
@@ -319,8 +271,7 @@ pub extern "C" fn crewelmarsh_store_put_abi5(
     store::put(owner, list, tiles, bytes, tile, block)
 }
 
-#[unsafe(no_mangle)]
-pub extern "C" fn crewelmarsh_store_length_abi5(
+pub fn crewelmarsh_store_length_abi5(
     owner: usize,
     list: &[usize],
     tiles: &[u16],
@@ -332,8 +283,7 @@ pub extern "C" fn crewelmarsh_store_length_abi5(
     store::length_of(owner, list, tiles, bytes, tile)
 }
 
-#[unsafe(no_mangle)]
-pub extern "C" fn crewelmarsh_store_fetch_abi5(
+pub fn crewelmarsh_store_fetch_abi5(
     owner: usize,
     list: &[usize],
     tiles: &[u16],
@@ -346,8 +296,7 @@ pub extern "C" fn crewelmarsh_store_fetch_abi5(
     store::fetch(owner, list, tiles, bytes, tile, out)
 }
 
-#[unsafe(no_mangle)]
-pub extern "C" fn crewelmarsh_store_drop_abi5(
+pub fn crewelmarsh_store_drop_abi5(
     owner: usize,
     list: &mut [usize],
     tiles: &mut [u16],
@@ -361,12 +310,7 @@ pub extern "C" fn crewelmarsh_store_drop_abi5(
 
 // ---- the tally
 
-#[unsafe(no_mangle)]
-pub extern "C" fn crewelmarsh_tally_add_abi5(
-    tally: &mut Tally,
-    answer: usize,
-    passes: usize,
-) -> usize
+pub fn crewelmarsh_tally_add_abi5(tally: &mut Tally, answer: usize, passes: usize) -> usize
     ensures { record { refusal = result; tally = tally.new } ≡ outcome tally.old answer passes }
 {
     let r = tally::added(*tally, answer, passes);
