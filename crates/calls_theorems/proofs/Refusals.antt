@@ -67,7 +67,7 @@ only_12 n limit edition a work result h = one (ltb 256 n) refl (limit_good limit
         } in
         absurd (ran (eigen n limit edition a work result).0 h (says_ran n limit edition a (eigen n limit edition a work result) (says n limit edition a work result t)))
 
--- **edition-refused-exactly**
+-- **edition_refused_exactly**
 pub edition_refused_exactly : (n limit edition : ℕ) (a work result : Vec) → ((eigen n limit edition a work result).0.answer ≡ 12) ↔ Wrong12 n limit edition
 edition_refused_exactly n limit edition a work result =
     (only_12 n limit edition a work result, λ w. ap (λ (o : Outcome). o.0.answer) (edition_refused n limit edition a work result w.0 w.1 w.2 w.3 w.4))
@@ -168,7 +168,7 @@ module _ (m n u vt : ℕ) (tol : Float) where
   inverse_11 d x (w, t) =
       rw (inverse_checks_last m n u vt tol (length d) (length x) w.0 w.1 w.2 w.3, fitting_11 tol (length d) (decomposition_length m n u vt) (length x) (n * m) ((tolerance_refused_exactly tol).1 t))
 
-  -- **solve-11-exactly**: and then nothing is touched
+  -- **solve_11_exactly**: and then nothing is touched
   pub solve_11_exactly : (d b x : Vec) → ((solve m n u vt tol d b x).0.answer ≡ 11) ↔ (Whole m n u vt × (length b ≡ m) × Refused11 tol)
   solve_11_exactly d b x = (solve_only_11 d b x, λ w. ap (λ (o : Answer × Vec). o.0.answer) (solve_11 d b x w))
 
@@ -178,7 +178,7 @@ module _ (m n u vt : ℕ) (tol : Float) where
       let e = subst (λ (y : Answer × Vec). (y.0.answer ≡ 11) ↔ (Whole m n u vt × (length b ≡ m) × Refused11 tol)) (sym p) (solve_11_exactly d b x) in
       (e, λ h. p ∙ solve_11 d b x (e.0 h))
 
-  -- **pseudo-inverse-11-exactly**
+  -- **pseudo_inverse_11_exactly**
   pub pseudo_inverse_11_exactly : (d x : Vec) → ((pseudo_inverse m n u vt tol d x).0.answer ≡ 11) ↔ (Whole m n u vt × Refused11 tol)
   pseudo_inverse_11_exactly d x = (inverse_only_11 d x, λ w. ap (λ (o : Answer × Vec). o.0.answer) (inverse_11 d x w))
 

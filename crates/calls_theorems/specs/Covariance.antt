@@ -38,7 +38,7 @@ module _ (n N : ℕ) (samples : List ℤ) (m : Vec) (o : Answer × Vec) (p : o �
 
     -- the matrix handed on to `symmetric_eigen`, with a limit, an edition and arrays that are right
     module _ (limit edition : ℕ) (work result : Vec) (least : 1 ≤ limit) (most : limit ≤ 60) (choice : (edition ≡ 1) ⊎ (edition ≡ 2)) (works : length work ≡ n) (room : length result ≡ n + n * n) where
-      -- **covariance-then-eigen**: it passes checks 1, 2, 12, 6 and 7
+      -- **covariance_then_eigen**: it passes checks 1, 2, 12, 6 and 7
       pub covariance_then_eigen : Taken n limit edition o.1 work result
       covariance_then_eigen = record {
         fit = record { small = (covariance_sizes n N samples m done0).bands; least = least; most = most; choice = choice; square = long; works = works; room = room };

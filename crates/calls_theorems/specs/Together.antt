@@ -72,7 +72,7 @@ module _ (m n u vt has_u has_vt limit : ℕ) (matrix work result : Vec) (x : Out
       fitting_lengths tol (length x.2) (decomposition_length m n has_u has_vt) (length answer) want g
       ∙ rw (eq-eqb (length x.2) (decomposition_length m n has_u has_vt) long, eq-eqb (length answer) want l)
 
-  -- **svd-then-pseudo-inverse**
+  -- **svd_then_pseudo_inverse**
   pub svd_then_pseudo_inverse : (tol : Float) (answer : Vec) → length answer ≡ n * m → Weighs tol (pseudo_inverse m n has_u has_vt tol x.2 answer).0
   unfolding pseudo_inverse
   svd_then_pseudo_inverse tol answer l = go (tolerance_good tol) refl
@@ -81,7 +81,7 @@ module _ (m n u vt has_u has_vt limit : ℕ) (matrix work result : Vec) (x : Out
       go false g = refuses g (rw (inverse_last tol answer, fitting_11 tol (length x.2) (decomposition_length m n has_u has_vt) (length answer) (n * m) g))
       go true g = takes g (rw (inverse_last tol answer, fits tol answer (n * m) g l, clean) (looked_ends (inverted m n tol x.2)))
 
-  -- **svd-then-solve**
+  -- **svd_then_solve**
   pub svd_then_solve : (tol : Float) (b answer : Vec) → length answer ≡ n → Says m (length x.2) tol b (solve m n has_u has_vt tol x.2 b answer).0
   unfolding solve
   svd_then_solve tol b answer l = elim (ℕ_discrete (length b) m) [

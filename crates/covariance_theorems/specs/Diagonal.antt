@@ -1,4 +1,4 @@
--- **diagonal-not-negative**: N times the sum of a band's squares is at least the square of its sum. Laws only.
+-- **diagonal_not_negative**: N times the sum of a band's squares is at least the square of its sum. Laws only.
 use Rattle.std.specs.Prelude.{◌≡◌, refl, Bool, true, false, cond, List, ltb, ℤ, negsuc, ◌+ℤ◌, ◌-ℤ◌, ◌*ℤ◌}
 use Rattle.std.proofs.Math.Path.{ap}
 use Rattle.std.proofs.Common.{sym, subst, ◌∙◌, add-one, mul-add, add-mul, mul_comm, mul-zero, suc-mul, mul-le-mul, arith, ltb-true, ltb-false, le-ltb}

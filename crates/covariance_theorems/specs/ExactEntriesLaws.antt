@@ -147,7 +147,7 @@ module _ (n N : ℕ) (samples : List ℤ) (m : Vec) where
         stands = subst (λ (r : Float). Stands r (whole samples N x y)) (sym (is_entry h x y p q)) (stands (whole samples N x y) o);
       }
 
-  -- **finite-out**
+  -- **finite_out**
   pub covariance_finite_out : (covariance n N samples m).0.answer ≡ 0 → Finite (covariance n N samples m).1
   unfolding matrix_of
   covariance_finite_out h k l =
@@ -158,7 +158,7 @@ module _ (n N : ℕ) (samples : List ℤ) (m : Vec) where
       ∙ ap is_finite (at_table (λ k. of_int binary64 (cell_at n N samples k)) (n * n) k c)
       ∙ stands_finite (of_int binary64 z) z (stands z o)
 
-  -- **over-first**: 26 points at the first entry over 2^53
+  -- **over_first**: 26 points at the first entry over 2^53
   pub covariance_over_first : (covariance n N samples m).0.answer ≡ 26 → FirstOver n N samples (covariance n N samples m).0.place
   unfolding covariance computed
   covariance_over_first h = go (eqb check.answer 0) refl (ltb (first_over n N samples) (n * n)) refl

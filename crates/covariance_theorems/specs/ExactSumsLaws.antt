@@ -95,7 +95,7 @@ module _ (n N : ℕ) (samples : List ℤ) (out : Vec) (o : Answer × Vec) (p : o
       pub sums_exact : (x : ℕ) → x < n → ExactSum samples N x (at o.1 x)
       sums_exact x l = record { small = size_of N (sum_of samples N x) done_is.1.most (in_range_lem x l); stands = exactly x l }
 
-      -- **finite-out**
+      -- **finite_out**
       pub sums_finite_out : Finite o.1
       unfolding sums_of
       sums_finite_out k l =

@@ -71,7 +71,7 @@ module _ (n limit edition : ℕ) (a : Vec) where
       let g = given_answer n f in
       ap (λ (x : Answer). x.index) g ∙ gives_index f t (λ v. u (subst (λ (x : Answer). Class x.answer) (sym g) v))
 
--- **index-points**: on 8 and 10 the number at the index of what the place's mark looks at is infinite, or NaN, and every number before it is finite
+-- **index_points**: on 8 and 10 the number at the index of what the place's mark looks at is infinite, or NaN, and every number before it is finite
 pub index_points : (n limit edition : ℕ) (a work result : Vec) → Class (eigen n limit edition a work result).0.answer → Points n limit edition a (eigen n limit edition a work result).0
 index_points n limit edition a work result u = ⊎_elim (λ f. says_points n limit edition a _ (says n limit edition a work result f) u) (λ r. absurd (⊎_elim (λ h. few h u) (λ h. other h u) r.few)) (checked n limit edition a work result)
   where
@@ -81,6 +81,6 @@ index_points n limit edition a work result u = ⊎_elim (λ f. says_points n lim
     other : {k : ℕ} → k ≡ 12 → Class k → ⊥
     other h = ⊎_elim (λ e. omega arith) (λ e. omega arith)
 
--- **index-zero**: on every other answer it is 0
+-- **index_zero**: on every other answer it is 0
 pub index_zero : (n limit edition : ℕ) (a work result : Vec) → (Class (eigen n limit edition a work result).0.answer → ⊥) → (eigen n limit edition a work result).0.index ≡ 0
 index_zero n limit edition a work result u = ⊎_elim (λ f. says_index n limit edition a _ (says n limit edition a work result f) u) (λ r. r.none) (checked n limit edition a work result)

@@ -176,7 +176,7 @@ module _ (n limit edition : ℕ) (a : Vec) where
       got : Says n limit edition a (finished_with n c (sorted n (w.last.v, w.last.d)).1 (by_rows n (sorted n (w.last.v, w.last.d)).0))
       got = runs w.some w.sound (well w.ran w.whole)
 
--- **done-exactly**: the answer is 0 with count c exactly where document 000's loops, refined so, come to their end after c passes
+-- **done_exactly**: the answer is 0 with count c exactly where document 000's loops, refined so, come to their end after c passes
 pub done_exactly : (n limit edition : ℕ) (a work result : Vec) → Taken n limit edition a work result → (c : ℕ)
     → ((eigen n limit edition a work result).0 ≡ done c) ↔ ((values : Vec) × (vectors : Vec) × Done n limit edition a c values vectors)
 done_exactly n limit edition a work result f c = (

@@ -161,11 +161,11 @@ module _ (n limit edition : ℕ) (a : Vec) (c : ℕ) (result : Vec) (z : 0 < n) 
       ((λ t. lt (value_at_lem q h t) (value_at_lem p (omega arith) t)) ∙ sorted_ascends n (r.last.v, r.last.d) x_square x_long x_finite p q l h)
 
 module _ (n limit edition : ℕ) (a work result : Vec) (z : (eigen n limit edition a work result).0.answer ≡ 0) where
-  -- **values-ascend**: no later value is below an earlier one
+  -- **values_ascend**: no later value is below an earlier one
   pub values_ascend : (p q : ℕ) → p < q → q < n → le (at (eigen n limit edition a work result).2 p) (at (eigen n limit edition a work result).2 q) ≡ true
   values_ascend p q l h = ascends n limit edition a _ _ (omega arith) (ran0 n limit edition a work result z (omega arith)) p q l h
 
-  -- **columns-with-values**: the run's values and columns, by one permutation
+  -- **columns_with_values**: the run's values and columns, by one permutation
   pub columns_with_values : 0 < n → Columns n limit edition a (eigen n limit edition a work result).0.count (eigen n limit edition a work result).2
   columns_with_values s =
       let r = ran0 n limit edition a work result z s in
@@ -180,7 +180,7 @@ module _ (n limit edition : ℕ) (a work result : Vec) (z : (eigen n limit editi
         vectors = λ i k p q. vector_at n limit edition a _ _ s r i k p q ∙ w.vectors i k p q;
       }
 
-  -- **finite-out**: every number of the result is finite
+  -- **finite_out**: every number of the result is finite
   pub finite_out : (k : ℕ) → k < n + n * n → is_finite (at (eigen n limit edition a work result).2 k) ≡ true
   finite_out k l = elim (dec_lt k n) [
     | yes h ↦ values_finite n limit edition a _ _ (omega arith) (ran0 n limit edition a work result z (omega arith)) k h

@@ -22,7 +22,7 @@ module _ (n limit edition k : ℕ) (a work result : Vec) where
   t : Outcome
   t = after k n limit edition a work result
 
-  -- **steps-end-as-one-call**: once no step is left, a finish gives the one call's answer, work and result
+  -- **steps_end_as_one_call**: once no step is left, a finish gives the one call's answer, work and result
   pub steps_end_as_one_call : arrived (after k n limit edition a work result).0 ≡ true
       → (let (q, w, r) = after k n limit edition a work result in reply (finished q w r) ≡ eigen n limit edition a work result)
   steps_end_as_one_call = finish_made n limit edition _ (after k n limit edition a work result) (made k n limit edition a work result)
@@ -32,7 +32,7 @@ module _ (n limit edition k : ℕ) (a work result : Vec) where
       → (let (q, w, r) = after k n limit edition a work result in running (finished q w r).0 ≡ false)
   finish_ends_it = finish_ends n limit edition _ (after k n limit edition a work result) (made k n limit edition a work result)
 
-  -- **never-refused**: no start and no step is refused with 13
+  -- **never_refused**: no start and no step is refused with 13
   pub never_refused : (after k n limit edition a work result).0.answer.answer ≡ 13 → ⊥
   unfolding t
   never_refused h = go (made k n limit edition a work result)
@@ -61,7 +61,7 @@ module _ (n limit edition k : ℕ) (a work result : Vec) where
       go (over q e) = absurd (true≢false (sym g ∙ q))
       go (runs x e f o b w) = subst (λ (u : Outcome). u.0.answer ≡ done u.0.run.count) (sym e) refl
 
--- **steps-arrive**: after n times limit steps at the latest no step is left
+-- **steps_arrive**: after n times limit steps at the latest no step is left
 pub steps_arrive : (n limit edition : ℕ) (a work result : Vec) → Reached (n * limit) (started n limit edition a work result)
 steps_arrive n limit edition a work result =
     reach n limit edition _ (n * limit) (started n limit edition a work result) (started_made n limit edition a work result) (λ h. omega arith)
@@ -72,11 +72,11 @@ steps_at_most n limit edition a work result =
     let m = started_made n limit edition a work result in
     reach n limit edition _ (n * 60) (started n limit edition a work result) m (λ h. omega (arith, mul-le-mul_left n (limit_of_lem n limit edition _ _ m h)))
 
--- **ended-repeats**: a step or a finish of a run that has ended, made in whatever way, repeats its answer and touches nothing
+-- **ended_repeats**: a step or a finish of a run that has ended, made in whatever way, repeats its answer and touches nothing
 pub ended_repeats : (q : EigenRun) (work result : Vec) → running q ≡ false → (stepped q work result ≡ (q, work, result)) × (finished q work result ≡ (q, work, result))
 ended_repeats q work result g = (stays_over (q, work, result) g, finish_over (q, work, result) g)
 
--- **answer-forgotten**: of a run that goes on, made in whatever way, the answer that it carries, which is all that 6 and 13 change, has no part in what the next call gives
+-- **answer_forgotten**: of a run that goes on, made in whatever way, the answer that it carries, which is all that 6 and 13 change, has no part in what the next call gives
 pub answer_forgotten : (n limit edition : ℕ) (r : Run) (x y : Answer) (work result : Vec) → eqb r.stop 0 ≡ true
     → (stepped (recorded n limit edition r x) work result ≡ stepped (recorded n limit edition r y) work result)
     × (finished (recorded n limit edition r x) work result ≡ finished (recorded n limit edition r y) work result)

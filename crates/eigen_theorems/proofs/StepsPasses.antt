@@ -122,7 +122,7 @@ entered_none n limit edition a =
     let x = refusal7 (first_bad_lower n a) in
     either NoPass (passed x) (either NoPass (eqb n 0) (refl, refl) (begun_none n limit edition a)) (refl, refusal_none (first_bad_lower n a))
 
--- **start-runs-none**: a start runs no pass, whatever it is given
+-- **start_runs_none**: a start runs no pass, whatever it is given
 pub start_runs_none : (n limit edition : ℕ) (a work result : Vec) → NoPass (started n limit edition a work result)
 unfolding started
 start_runs_none n limit edition a work result =
@@ -138,7 +138,7 @@ moved_paced n limit edition r work result =
     let p = machine_paced n limit edition (state_of n r work result) in
     either (λ (t : Outcome). Paced r.count t.0.run.count) (eqb y.0.stop 0) p p
 
--- **step-runs-one-at-most**: of every record, made in whatever way, and all arrays
+-- **step_runs_one_at_most**: of every record, made in whatever way, and all arrays
 pub step_runs_one_at_most : (q : EigenRun) (work result : Vec) → (q.run.count ≤ (stepped q work result).0.run.count) × ((stepped q work result).0.run.count ≤ q.run.count + 1)
 unfolding stepped
 step_runs_one_at_most q work result =
@@ -153,7 +153,7 @@ unfolding walked
 walked_count zero t = omega arith
 walked_count (suc k) t = omega (arith, walked_count k (stepped t.0 t.1 t.2), (step_runs_one_at_most t.0 t.1 t.2).1)
 
--- **passes-by-steps**: a start and k steps have run k passes at the most
+-- **passes_by_steps**: a start and k steps have run k passes at the most
 pub passes_by_steps : (k n limit edition : ℕ) (a work result : Vec) → (after k n limit edition a work result).0.run.count ≤ k
 unfolding after
 passes_by_steps k n limit edition a work result = omega (arith, walked_count k (started n limit edition a work result), (start_runs_none n limit edition a work result).0)
@@ -163,7 +163,7 @@ unfolding walked
 walked_next zero t = refl
 walked_next (suc k) t = walked_next k (stepped t.0 t.1 t.2)
 
--- **step-runs-one**: a step with steps left before it and behind it runs exactly one
+-- **step_runs_one**: a step with steps left before it and behind it runs exactly one
 pub step_runs_one : (k n limit edition : ℕ) (a work result : Vec) → arrived (after k n limit edition a work result).0 ≡ false → arrived (after (suc k) n limit edition a work result).0 ≡ false
     → (after (suc k) n limit edition a work result).0.run.count ≡ (after k n limit edition a work result).0.run.count + 1
 unfolding after
@@ -241,7 +241,7 @@ after_counts : (k n limit edition : ℕ) (a work result : Vec) → Counts (after
 unfolding after
 after_counts k n limit edition a work result = walked_counts k (started n limit edition a work result) (none_most _ _ (start_runs_none n limit edition a work result).1)
 
--- **steps-not-fewer**: where no step is left after k, the one call runs k passes at the most: none was run before the first step
+-- **steps_not_fewer**: where no step is left after k, the one call runs k passes at the most: none was run before the first step
 pub steps_not_fewer : (n limit edition k : ℕ) (a work result : Vec) → arrived (after k n limit edition a work result).0 ≡ true → (eigen n limit edition a work result).0.count ≤ k
 steps_not_fewer n limit edition k a work result h =
     let t = after k n limit edition a work result in

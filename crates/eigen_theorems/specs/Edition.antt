@@ -14,7 +14,7 @@ other edition p q = go (edition_good edition) refl
     go true e = absurd (⊎_elim p q (edition_right edition e))
     go false e = refl
 
--- **edition-refused**
+-- **edition_refused**
 pub edition_refused : (n limit edition : ℕ) (a work result : Vec) → n ≤ 256 → 1 ≤ limit → limit ≤ 60 → (edition ≡ 1 → ⊥) → (edition ≡ 2 → ⊥)
     → eigen n limit edition a work result ≡ (refused 12 0, work, result)
 unfolding eigen limit_good

@@ -20,7 +20,7 @@ abbrev pub stopping : Run → ℕ → Run
 stopping r stop = record { l = r.l; m = r.m; f = r.f; tst1 = r.tst1; passes = r.passes; count = r.count; stop = stop; index = 0 }
 
 -- the m to split on: the first from l at which e counts as zero, and n - 1 at the latest. The Rust looks on up to n and never comes there: at n - 1 its test
--- holds (`test_at_last`, eigen_theorems/specs/Tql2Marks.antt), since e[n - 1] is 0 and tst1 is no NaN; so it finds the same m (`split_is`, eigen_theorems/specs/Tql2Invariant.antt)
+-- holds (`test_at_last`, eigen_theorems/proofs/Tql2Marks.antt), since e[n - 1] is 0 and tst1 is no NaN; so it finds the same m (`split_is`, eigen_theorems/specs/Tql2Invariant.antt)
 unfoldable pub split : ℕ → ℕ → Float → Vec → ℕ
 split n l tst1 e = first (tiny e tst1) l (n - 1)
 

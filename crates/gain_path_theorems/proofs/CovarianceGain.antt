@@ -1,4 +1,4 @@
--- **covariance-gain**: `covariance` of samples and of 2 ^ k times them. Laws only.
+-- **covariance_gain**: `covariance` of samples and of 2 ^ k times them. Laws only.
 use Rattle.std.specs.Prelude.{◌≡◌, Bool, true, false, cond, List, [], ◌∷◌, ◌++◌, map, ltb, ℤ, neg_ℤ, ◌-ℤ◌, Float, length, get_or, take, drop}
 use Rattle.std.proofs.Math.Path.{refl, sym, ap, ap₂}
 use Rattle.std.proofs.Common.{◌∙◌, subst, subst₂, true≢false, inl, inr, pow-add, pow_pos, get_or-take, get_or-drop}
@@ -182,7 +182,7 @@ module _ (k n N : ℕ) (samples : List ℤ) where
 pub covariance_gain_whole : (k : ℕ) (samples : List ℤ) (N x y : ℕ) → whole (louder k samples) N x y ≡ pos (4 ^ k) *ℤ whole samples N x y
 covariance_gain_whole k samples N x y = whole_louder k samples N x y ∙ ap (λ (c : ℕ). pos c *ℤ whole samples N x y) (sym (four_power k))
 
--- **covariance-gain**: x and y are what two calls came back with that meet covariance's promise
+-- **covariance_gain**: x and y are what two calls came back with that meet covariance's promise
 pub covariance_gain : (k n N : ℕ) (samples : List ℤ) (m m' : Vec) (x y : Answer × Vec) → length m' ≡ length m
     → x ≡ covariance n N samples m → y ≡ covariance n N (louder k samples) m' → CovarianceGained k x y
 covariance_gain k n N samples m m' x y long p q = subst₂ (CovarianceGained k) (sym p) (sym q) (both_calls k n N samples m m' long)

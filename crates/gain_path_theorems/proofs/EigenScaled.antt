@@ -280,7 +280,7 @@ module _ (n limit edition : ℕ) (a work work' result result' : Vec) (works : le
         others = λ z. ⊎_elim (λ t. inl (t.1, t.0)) (λ t. inr (t.1, t.0)) (h.others (ne_eqb _ 0 (λ e. z (ap (λ (q : Answer). q.answer) h.answers ∙ e))));
       }
 
--- **gain-keeps-eigenvectors**: x and y are what two calls came back with that meet symmetric_eigen's promise
+-- **gain_keeps_eigenvectors**: x and y are what two calls came back with that meet symmetric_eigen's promise
 pub gain_keeps_eigenvectors : (k : ℤ) (n limit edition : ℕ) (matrix work result work' result' : Vec) (x y : Outcome) → length work' ≡ length work → length result' ≡ length result
     → Doubles matrix → Doubles (map (scale k) matrix) → Promised n limit edition matrix work result x → Promised n limit edition (map (scale k) matrix) work' result' y
     → EigenFine n limit edition matrix work result → EigenFine n limit edition (map (scale k) matrix) work' result' → EigenGained k n work result work' result' x y

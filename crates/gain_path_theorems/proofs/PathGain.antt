@@ -23,7 +23,7 @@ done_fits n N samples m x p z =
     subst Doubles (sym (ap (λ (r : Answer × Vec). r.1) p ∙ (done_is n N samples m (ap (λ (r : Answer × Vec). r.0.answer) (sym p) ∙ z)).0))
     (table_fits _ (n * n) (λ i. of_int-fits binary64 (cell_at n N samples i)))
 
--- **gain-keeps-path**: x and y are what two calls of covariance came back with, o and p what two of symmetric_eigen made of their matrices
+-- **gain_keeps_path**: x and y are what two calls of covariance came back with, o and p what two of symmetric_eigen made of their matrices
 pub gain_keeps_path : (k n N : ℕ) (samples : List ℤ) (m m' : Vec) (x y : Answer × Vec) (limit edition : ℕ) (work result work' result' : Vec) (o p : Outcome) → length m' ≡ length m
     → x ≡ covariance n N samples m → y ≡ covariance n N (louder k samples) m' → y.0.answer ≡ 0 → length work' ≡ length work → length result' ≡ length result
     → Promised n limit edition x.1 work result o → Promised n limit edition y.1 work' result' p → EigenFine n limit edition x.1 work result

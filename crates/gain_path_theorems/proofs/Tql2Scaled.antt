@@ -1,4 +1,4 @@
--- **tql2-gain**: `tql2` of d and e and of 2 ^ k times them, with the same v. Laws only.
+-- **tql2_gain**: `tql2` of d and e and of 2 ^ k times them, with the same v. Laws only.
 use Rattle.std.specs.Prelude.{◌≡◌, Bool, true, false, not, ◌++◌, map, ℕ, zero, suc, ◌+◌, ◌-◌, ◌≤◌, ◌<◌, T, ltb, eqb, pos, Float, set}
 use Rattle.std.proofs.Math.Path.{refl, ap}
 use Rattle.std.proofs.Common.{sym, ap₂, ◌∙◌, subst, arith, ltb-true, ltb-false, eqb-true, ext_get_or}
@@ -281,7 +281,7 @@ as_map : (k : ℕ) (d d' : Vec) → Pair k d d' → d' ≡ map (scale (pos k)) d
 as_map k d d' h =
     ext_get_or nan d' (map (scale (pos k)) d) (h.alike.long ∙ sym (length-map d (scale (pos k)))) (λ i _. h.alike.each i ∙ sym (at_map (pos k) d i))
 
--- **tql2-gain**
+-- **tql2_gain**
 pub tql2_gain : (k n limit edition : ℕ) (v d e : Vec) → Doubles d → Doubles e → Doubles (map (scale (pos k)) d) → Doubles (map (scale (pos k)) e)
     → Tql2Fine n limit edition (v, d, e) → Tql2Fine n limit edition (v, map (scale (pos k)) d, map (scale (pos k)) e)
     → Tql2Gained k (tql2 n limit edition (v, d, e)) (tql2 n limit edition (v, map (scale (pos k)) d, map (scale (pos k)) e))

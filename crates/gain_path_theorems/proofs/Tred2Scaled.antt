@@ -1,4 +1,4 @@
--- **tred2-gain**: `tred2` of a matrix and of 2 ^ k times it. Laws only.
+-- **tred2_gain**: `tred2` of a matrix and of 2 ^ k times it. Laws only.
 use Rattle.std.specs.Prelude.{◌≡◌, refl, Bool, true, false, ℕ, zero, suc, ◌+◌, ◌*◌, ◌-◌, ◌/◌, ◌%◌, ◌≤◌, ◌<◌, ltb, length}
 use Rattle.std.proofs.Common.{sym, ◌∙◌, subst, le_antisymm, div-add-mod', div-lt_iff_lt-mul, mod-lt, arith, ltb-true, ltb-false, length-set, ext_get_or}
 use Rattle.std.specs.Float.{nan}

@@ -1,4 +1,4 @@
--- **pythag-1**, **pythag-2**: the editions.
+-- **pythag_1**, **pythag_2**: the editions.
 use mathlib.Core.Path.{◌≡◌, refl}
 use lib.Ieee.{Float}
 use Rattle.leaves.specs.Leaf.{hypot}

@@ -1,4 +1,4 @@
--- **hypot2-symmetric**: the two numbers may change places. **hypot2-zero**: beside a zero it is the other number's magnitude, exactly.
+-- **hypot2_symmetric**: the two numbers may change places. **hypot2_zero**: beside a zero it is the other number's magnitude, exactly.
 use mathlib.Core.Path.{◌≡◌, refl, sym, ap, ◌∙◌}
 use mathlib.Core.Bool.{Bool, false}
 use Prim.Native.Nat.{ℕ, zero, ◌+◌, ◌-◌, ◌*◌, ◌^◌, ◌<◌}

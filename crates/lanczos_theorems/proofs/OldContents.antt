@@ -36,7 +36,7 @@ checks_early n k limit edition a b work x = go (ltb 256 n) (limit_good limit) (e
 entered_same : (n k limit edition : ℕ) (a b work work' : Vec) → length work ≡ length work' → lanczos_entered n k limit edition a b work ≡ lanczos_entered n k limit edition a b work'
 entered_same n k limit edition a b work work' l = rw l
 
--- **lanczos-old-contents**
+-- **lanczos_old_contents**
 pub lanczos_old_contents : (n k limit edition : ℕ) (a b work x work' x' : Vec) → length work ≡ length work' → length x ≡ length x'
     → (Untouched (lanczos n k limit edition a b work x).0 → ⊥) → lanczos n k limit edition a b work x ≡ lanczos n k limit edition a b work' x'
 unfolding lanczos

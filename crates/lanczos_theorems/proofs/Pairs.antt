@@ -181,7 +181,7 @@ module _ (n k limit edition : ℕ) (a b : Vec) (f : Fit n k limit edition) where
   says_pairs y (at_answer g s m l p q {i = i} {c = c} r) z = absurd (⊎_elim (λ e. omega arith) (λ e. omega arith) (first_class (at (found_of n k limit edition a b m)) (length (found_of n k limit edition a b m)) i c r))
   says_pairs y (found g s m l p q r) z = found_pairs m l p q
 
--- **lanczos-found**
+-- **lanczos_found**
 pub lanczos_found : (n k limit edition : ℕ) (a b work x : Vec) → (lanczos n k limit edition a b work x).0.answer ≡ 0
     → Pairs n k limit edition a b (lanczos n k limit edition a b work x).0.place (lanczos n k limit edition a b work x).2
 lanczos_found n k limit edition a b work x z = go (passed c) refl

@@ -257,7 +257,7 @@ module _ (n k limit edition : ℕ) (a b : Vec) where
       go (At i c) e = at_number (scan_first (at (a ++ b)) (length (a ++ b)) i c e)
       go Nowhere e = ran_says (first_bad_none (a ++ b) e)
 
-  -- **lanczos-says**: a call that passes the checks gives what its steps say
+  -- **lanczos_says**: a call that passes the checks gives what its steps say
   pub lanczos_says : (work x : Vec) → passed (checks n k limit edition (length a) (length b) (length work) (length x)) ≡ true
       → Says n k limit edition a b ((lanczos n k limit edition a b work x).0, (lanczos n k limit edition a b work x).2)
   unfolding lanczos
@@ -323,7 +323,7 @@ whole n k limit edition a b work x = go (passed c) refl
         subst (λ (y : Outcome). Whole n k limit edition a b y.0) (sym (Rattle.lanczos_theorems.proofs.OldContents.lanczos_untouched n k limit edition a b work x e))
         (record { points = λ u. absurd (h.unmarked u); zero = λ u. h.none; one = h.one })
 
--- **lanczos-index-points**, **lanczos-index-zero**, **lanczos-answers**: y is what a call came back with
+-- **lanczos_index_points**, **lanczos_index_zero**, **lanczos_answers**: y is what a call came back with
 module _ (n k limit edition : ℕ) (a b work x : Vec) (y : Outcome) (p : Promised n k limit edition a b work x y) where
   of_call : Whole n k limit edition a b y.0
   of_call = subst (λ (o : Outcome). Whole n k limit edition a b o.0) (sym p) (whole n k limit edition a b work x)
@@ -440,7 +440,7 @@ module _ (n k limit edition : ℕ) (a b : Vec) where
   unfolding looked
   looked_by f c x y e = ap (Looked f c x) e
 
-  -- **lanczos-gives**
+  -- **lanczos_gives**
   says_is : (y : Answer × Vec) → Says n k limit edition a b y → Run (first_bad (a ++ b)) ≡ y
   says_is y (at_number {i = i} {c = c} g) = ap Run (first_scan (at (a ++ b)) (length (a ++ b)) i c g)
   says_is y (at_norm g e) = taken_run g ∙ ran_by false e
@@ -458,7 +458,7 @@ module _ (n k limit edition : ℕ) (a b : Vec) where
       taken_run g ∙ ran_by true s ∙ sym (solved_goes n k limit edition a b g s q.0 m q.1) ∙ paired_looks m z
       ∙ looked_by (least k m) (inner_of n k limit edition a b m).0.count (found_of n k limit edition a b m) Nowhere (first_bad_fine (found_of n k limit edition a b m) f)
 
-  -- **lanczos-exactly**: of a call that passes the checks: (r, x) is what it answers, and the array, exactly where its steps say that; and work is all +0.0
+  -- **lanczos_exactly**: of a call that passes the checks: (r, x) is what it answers, and the array, exactly where its steps say that; and work is all +0.0
   lanczos_is : (work x : Vec) → passed (checks n k limit edition (length a) (length b) (length work) (length x)) ≡ true
       → lanczos n k limit edition a b work x ≡ ((Run (first_bad (a ++ b))).0, zeros (length work), (Run (first_bad (a ++ b))).1)
   unfolding lanczos

@@ -85,11 +85,11 @@ call_good n k limit edition a b work x = go (passed c) refl
     go true e = run_good n k limit edition a b
     go false e = refused_good k c x (eqb-false c.answer 0 e)
 
--- **lanczos-finite-out**
+-- **lanczos_finite_out**
 pub lanczos_finite_out : (n k limit edition : ℕ) (a b work x : Vec) → (lanczos n k limit edition a b work x).0.answer ≡ 0 → Finite (lanczos n k limit edition a b work x).2
 lanczos_finite_out n k limit edition a b work x = (call_good n k limit edition a b work x).finite
 
--- **lanczos-pairs**
+-- **lanczos_pairs**
 pub lanczos_pairs : (n k limit edition : ℕ) (a b work x : Vec) → (lanczos n k limit edition a b work x).0.answer ≡ 0 → (lanczos n k limit edition a b work x).0.place ≤ k
 lanczos_pairs n k limit edition a b work x = (call_good n k limit edition a b work x).pairs
 

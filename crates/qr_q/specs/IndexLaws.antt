@@ -1,4 +1,4 @@
--- **index-points**: where `qr_q` answers 8 or 10, the index is that of the first column whose norm is not finite. **index-zero**: on every other answer it is 0. Laws only.
+-- **index_points**: where `qr_q` answers 8 or 10, the index is that of the first column whose norm is not finite. **index_zero**: on every other answer it is 0. Laws only.
 use Rattle.std.specs.Prelude.{◌≡◌, Bool, true, false, cond, ◌||◌, length}
 use Rattle.std.proofs.Math.Path.{refl, ap, subst}
 use Rattle.std.proofs.Common.{sym, ◌∙◌, add-one, arith}

@@ -154,7 +154,7 @@ qr_good m k a x = check_good (length a) (checks m k (length a) (length x)) x _ (
     scanned (At i c) e = refuses (length a) _ _ (λ z. omega arith)
     scanned Nowhere e = columns_good m k a (first_bad_none a e)
 
--- **finite-out**
+-- **finite_out**
 pub qr_q_finite_out : (m k : ℕ) (a x : Vec) → (qr_q m k a x).0.answer ≡ 0 → Finite (qr_q m k a x).1
 qr_q_finite_out m k a x = (qr_good m k a x).finite
 

@@ -28,7 +28,7 @@ solve_good m n u vt tol d b x =
     check_good n (solve_checks m n u vt tol (length d) (length b) (length x)) x _
     (unless_good n (first_bad (d ++ b)) x _ (looked_good n (solution m n tol d b) (length_table _ n)))
 
--- **finite-out**
+-- **finite_out**
 pub solve_finite_out : (m n u vt : ℕ) (tol : Float) (d b x : Vec) → (solve m n u vt tol d b x).0.answer ≡ 0 → Finite (solve m n u vt tol d b x).1
 solve_finite_out m n u vt tol d b x = (solve_good m n u vt tol d b x).finite
 

@@ -48,7 +48,7 @@ inverse_checks_zero : (m n u vt d x : ℕ) → inverse_checks m n u vt (neg zero
 unfolding inverse_checks fitting
 inverse_checks_zero m n u vt d x = rw good_zero
 
--- **tolerance-zero**
+-- **tolerance_zero**
 pub solve_tolerance_zero : (m n u vt : ℕ) (d b x : Vec) → solve m n u vt (neg zero64) d b x ≡ solve m n u vt zero64 d b x
 unfolding solve
 solve_tolerance_zero m n u vt d b x i =

@@ -175,7 +175,7 @@ module _ (m n want_u want_vt limit : ℕ) (a work work' result result' : Vec) (w
         results = λ z. results_down j (least m n) _ _ (h.results (eq-eqb _ 0 (sym (ap (λ (q : Answer). q.answer) h.answers) ∙ z)));
       }
 
--- **gain-keeps-basis**: x and y are what two calls came back with that meet svd's promise
+-- **gain_keeps_basis**: x and y are what two calls came back with that meet svd's promise
 pub gain_keeps_basis : (k : ℤ) (m n want_u want_vt limit : ℕ) (matrix work result work' result' : Vec) (x y : Outcome) → length work' ≡ length work → length result' ≡ length result
     → Promised m n want_u want_vt limit matrix work result x → Promised m n want_u want_vt limit (map (scale k) matrix) work' result' y
     → SvdFine m n want_u want_vt limit matrix work result → SvdFine m n want_u want_vt limit (map (scale k) matrix) work' result'

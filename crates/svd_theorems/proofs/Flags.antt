@@ -51,7 +51,7 @@ module _ (m n u vt u' vt' limit : ℕ) (matrix work result work' result' : Vec) 
       ∙ sym (checks_flags m n u' vt' limit (length matrix) (length work))
       ∙ (λ i. checks m n u' vt' limit (length matrix) (lw i) (sym lr' i))
 
-  -- **svd-flags**: answer, place, index and count are the same, refusals too
+  -- **svd_flags**: answer, place, index and count are the same, refusals too
   pub svd_flags_numbers : (svd m n u vt limit matrix work result).0 ≡ (svd m n u' vt' limit matrix work' result').0
   svd_flags_numbers =
       numbers m n u vt limit matrix work result

@@ -117,7 +117,7 @@ module _ (m n want_u want_vt limit : ℕ) (matrix work result : Vec) (f : Taken 
   outcome_is : (o : Answer × Vec) → RunGives (longest m n) (least m n) limit (begun m n matrix) o → svd m n want_u want_vt limit matrix work result ≡ given m n want_u want_vt o
   outcome_is o t = runs m n want_u want_vt limit matrix work result f ∙ ap (given m n want_u want_vt) (gives_once (longest m n) (least m n) limit (begun m n matrix) _ o tells t)
 
-  -- **svd-done-exactly**
+  -- **svd_done_exactly**
   pub svd_done_exactly : (c : ℕ) → ((svd m n want_u want_vt limit matrix work result).0 ≡ done c) ↔ Done m n limit matrix c
   unfolding given
   svd_done_exactly c = (

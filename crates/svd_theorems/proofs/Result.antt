@@ -32,7 +32,7 @@ module _ (m n want_u want_vt limit : ℕ) (matrix work result : Vec) (z : (svd m
   taken : Taken m n want_u want_vt limit matrix work result
   taken = taken_of m n want_u want_vt limit matrix work result z
 
-  -- **svd-cells**: cell (i, k) of U is cell (i, order k) of the factor of m rows, and cell (k, j) of V^T cell (j, order k) of the factor of n rows
+  -- **svd_cells**: cell (i, k) of U is cell (i, order k) of the factor of m rows, and cell (k, j) of V^T cell (j, order k) of the factor of n rows
   pub svd_cells_u : (want_u ≡ 0 → ⊥) → (i k : ℕ) → i < m → k < least m n
       → at (svd m n want_u want_vt limit matrix work result).2 (u_cell m n i k) ≡ u_factor m n (plain_work m n matrix) i (order_of m n (plain_work m n matrix) k)
   unfolding plain_svd
@@ -49,7 +49,7 @@ module _ (m n want_u want_vt limit : ℕ) (matrix work result : Vec) (z : (svd m
   unfolding plain_svd
   svd_long = ap length (svd_plain m n want_u want_vt limit matrix work result z) ∙ sorted_long m n want_u want_vt (plain_work m n matrix)
 
-  -- **vt-row-cells**: so number j of row k of V^T, the part that `vt_row` gives, is cell (j, order k) of the factor of n rows
+  -- **vt_row_cells**: so number j of row k of V^T, the part that `vt_row` gives, is cell (j, order k) of the factor of n rows
   pub vt_row_cells : (want_vt ≡ 0 → ⊥) → (k j : ℕ) → k < least m n → j < n →
       let res = (svd m n want_u want_vt limit matrix work result).2 in
       at (part_of res (row_span (length res) m n want_u want_vt k)) j ≡ v_factor m n (plain_work m n matrix) j (order_of m n (plain_work m n matrix) k)
@@ -93,7 +93,7 @@ module _ (m n want_u want_vt limit : ℕ) (matrix work result : Vec) (z : (svd m
   v_finite : (j p : ℕ) → j < n → p < least m n → is_finite (v_factor m n (plain_work m n matrix) j p) ≡ true
   v_finite j p = factor_finite (leb n m) n j p (right_side m n)
 
-  -- **svd-finite-out**: the values, U and V^T, so far as they are wanted
+  -- **svd_finite_out**: the values, U and V^T, so far as they are wanted
   pub svd_finite_out : (x : ℕ) → x < decomposition_length m n want_u want_vt → is_finite (at (svd m n want_u want_vt limit matrix work result).2 x) ≡ true
   unfolding decomposition_length
   svd_finite_out x l = elim (dec_lt x r) [

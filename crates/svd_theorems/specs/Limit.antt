@@ -55,7 +55,7 @@ svd_limit m n want_u want_vt k l matrix work result z p q =
     (by_test answer3 (passed (refusal7 (first_bad matrix))) _ refl (ran_limit m n want_u want_vt k l matrix (zeros (length work)) (zeros (length result)) z p) (always answer3))
     (record { same = λ h. ap (λ (c : Answer). (c, work, result)) (sym e) })
 
--- **svd-limit-raised**: any outcome but refusal 9 is the outcome at every higher limit up to 60
+-- **svd_limit_raised**: any outcome but refusal 9 is the outcome at every higher limit up to 60
 pub svd_limit_raised : (m n want_u want_vt k l : ℕ) (matrix work result : Vec) → 1 ≤ k → k ≤ l → l ≤ 60 → ((svd m n want_u want_vt k matrix work result).0.answer ≡ 9 → ⊥)
     → svd m n want_u want_vt l matrix work result ≡ svd m n want_u want_vt k matrix work result
 svd_limit_raised m n want_u want_vt k l matrix work result z p q = (svd_limit m n want_u want_vt k l matrix work result z p q).same
