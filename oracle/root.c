@@ -8,7 +8,8 @@
 #include <time.h>
 
 double root_root(double x);
-void root_side_by_side_roots(double roots[2], double x, double y);
+struct pair { double first, second; };
+struct pair root_side_by_side_roots(double x, double y);
 double leaves_hypot(double x, double y);
 double hypot_hypot2(double x, double y);
 double former_root(double x);
@@ -52,12 +53,13 @@ static int same(double x, double y) { return x != x ? y != y : to_bits(x) == to_
 static unsigned long hold(const char *what, unsigned long count, uint64_t (*draw)(void))
 {
     unsigned long i, wrong = 0;
-    double last = 0, roots[2];
+    double last = 0;
+    struct pair roots;
     for (i = 0; i < count; i++) {
         double x = from_bits(draw()), y = own_root(x);
         wrong += !same(root_root(x), y) || !same(former_root(x), y) || !same(factor_root(x), y);
-        root_side_by_side_roots(roots, last, x);
-        wrong += !same(roots[0], own_root(last)) || !same(roots[1], y);
+        roots = root_side_by_side_roots(last, x);
+        wrong += !same(roots.first, own_root(last)) || !same(roots.second, y);
         last = x;
     }
     printf("%s: %lu numbers, %lu differ from the processor's root\n", what, count, wrong);
@@ -119,12 +121,12 @@ static void apart(double (*root)(double))
 static void waiting_pairs(double (*root)(double))
 {
     uint64_t last = 0;
-    double roots[2];
+    struct pair roots;
     int i;
     (void)root;
     for (i = 0; i < NUMBERS; i += 2) {
-        root_side_by_side_roots(roots, from_bits(numbers[i] ^ (last & 1)), from_bits(numbers[i + 1] ^ (last & 1)));
-        last = to_bits(roots[0]) ^ to_bits(roots[1]);
+        roots = root_side_by_side_roots(from_bits(numbers[i] ^ (last & 1)), from_bits(numbers[i + 1] ^ (last & 1)));
+        last = to_bits(roots.first) ^ to_bits(roots.second);
     }
     kept = last;
 }
@@ -132,12 +134,12 @@ static void waiting_pairs(double (*root)(double))
 static void apart_pairs(double (*root)(double))
 {
     uint64_t seen = 0;
-    double roots[2];
+    struct pair roots;
     int i;
     (void)root;
     for (i = 0; i < NUMBERS; i += 2) {
-        root_side_by_side_roots(roots, from_bits(numbers[i]), from_bits(numbers[i + 1]));
-        seen += to_bits(roots[0]) + to_bits(roots[1]);
+        roots = root_side_by_side_roots(from_bits(numbers[i]), from_bits(numbers[i + 1]));
+        seen += to_bits(roots.first) + to_bits(roots.second);
     }
     kept = seen;
 }

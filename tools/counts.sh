@@ -36,7 +36,7 @@ holds lazy-versions "$(ls tests/lazy/*.patch | wc -l | tr -d ' ')"
 holds entries "$(cat crates/crewelmarsh_c/src/*.rt | grep -c '^pub extern "C" fn ')"
 holds entries "$(grep -c '^#define crewelmarsh_[a-z_]* CREWELMARSH_NAME' include/crewelmarsh.h)"
 # shellcheck disable=SC2016
-holds safety-only "$(find crates -path '*/src/*.rt' | sort | xargs awk '
+holds safety-only "$(find crates -path '*/out' -prune -o -path '*/src/*.rt' -print | sort | xargs awk '
     FNR == 1 { on = 0 }
     /^ *pub (extern "C" )?fn / { on = 1; head = "" }
     on { head = head " " $0 }

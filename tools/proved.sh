@@ -3,8 +3,8 @@
 # crewelmarsh_c, promises, and all that these use. Of each, what the gate's rt ci said (build/gate.log) has one such line, with no `axioms=` and no `foreign=`, and with the
 # `sum=`, of the logic that the proof was checked in, of the kit at hand, a line of tools/kit; or rt says that it kept the crate of an earlier run here, with the same
 # kit, of the same files over the same libraries: then it writes no line, and of what could rest on C it may use nothing: no library but those of crates.txt, and of std
-# `std::num` alone (rt ci refuses C functions of a crate's own). The line of the archive is in build/archive.log (tools/archive.sh), and has a `target=`, and no `cpu=`: it is
-# for every processor of that target.
+# `std::cmp`, `std::num` and `std::ops` alone, which are core's, and lemmas (`std::proofs`) (rt ci refuses C functions of a crate's own). The line of the archive is in
+# build/archive.log (tools/archive.sh), and has a `target=`, and no `cpu=`: it is for every processor of that target.
 set -u
 CDPATH='' cd -- "$(dirname "$0")/.." || exit 2
 log=build/gate.log made=build/archive.log
@@ -28,8 +28,8 @@ used=$(sed 's/#.*//' crates.txt | awk '
     exit 1
 }
 for crate in $used; do
-    if grep -rn 'std::' "crates/$crate/src" | grep -v 'std::num::'; then
-        echo "proved: $crate uses more of std than std::num" >&2
+    if grep -rnE '\b(std|core|alloc)::' "crates/$crate/src" | sed -E 's/\bstd::(cmp|num|ops|proofs):://g' | grep -E '\b(std|core|alloc)::'; then
+        echo "proved: $crate uses more of std than cmp, num, ops and its lemmas" >&2
         exit 1
     fi
 done

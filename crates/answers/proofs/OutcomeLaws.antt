@@ -1,11 +1,10 @@
 -- What checks say where they pass and where they refuse, of one call and of two that differ in old contents or in the limit. Laws only.
-use Rattle.std.specs.Prelude.{◌≡◌, refl, Bool, true, false, cond, ℕ, ◌≤◌, length}
+use Rattle.leaves.specs.declared.Bad.{Bad}
+use Rattle.std.specs.Prelude.{◌≡◌, refl, Bool, true, false, cond, ℕ, ◌≤◌, length, Option, Some, None}
 use Rattle.std.proofs.Common.{sym, ap, ◌∙◌, subst, true≢false, arith, eq-eqb, ne_eqb}
 use Rattle.std.proofs.lemmas.Bool.{eqb-false}
 use Rattle.grid.specs.Real.{Vec, zeros}
 use Rattle.leaves.specs.Finite.{Finite}
-use Rattle.leaves.specs.declared.Bad.{Bad}
-use Rattle.leaves.specs.declared.Bad.TheVariants.{At, Nowhere}
 use Rattle.answers.specs.Answers.{refused, passed, present, refusal7, unless_bad}
 use Rattle.answers.specs.Early.{Early}
 use Rattle.answers.specs.declared.Answer.{Answer}
@@ -26,9 +25,9 @@ one_outcome x o p e f = e ∙ sym f
 
 -- ---- a check that passes
 
-pub none_seven : (b : Bad) → (refusal7 b).answer ≡ 0 → b ≡ Nowhere
-none_seven (At k c) h = absurd (omega arith)
-none_seven Nowhere h = refl
+pub none_seven : (b : Option Bad) → (refusal7 b).answer ≡ 0 → b ≡ None
+none_seven (Some bad) h = absurd (omega arith)
+none_seven None h = refl
 
 -- ---- a check refuses with 6 at the most
 
@@ -62,9 +61,9 @@ pub old : (S : Type 0) (answer : S → Answer) (c : Answer) (o p r s : S) → c.
 old S answer c o p r s few same e f h = old_kept S Early answer c o p r s (few_early c few) same e h
 
 -- refusal 7 and what comes after it
-pub same_bad : (b : Bad) (x y : Vec) (o p : Answer × Vec) → length x ≡ length y → o ≡ p → unless_bad b x o ≡ unless_bad b y p
-same_bad (At i c) x y o p l e = ap (λ (n : ℕ). (refused 7 i, zeros n)) l
-same_bad Nowhere x y o p l e = e
+pub same_bad : (b : Option Bad) (x y : Vec) (o p : Answer × Vec) → length x ≡ length y → o ≡ p → unless_bad b x o ≡ unless_bad b y p
+same_bad (Some bad) x y o p l e = ap (λ (n : ℕ). (refused 7 bad.index, zeros n)) l
+same_bad None x y o p l e = e
 
 -- ---- a higher limit: y is x, unless x is refused with 9
 
@@ -91,9 +90,9 @@ pub record Good (n : ℕ) (x : Answer × Vec) : Type 0 where
 pub refuses : (n : ℕ) (x : Answer) (v : Vec) → (x.answer ≡ 0 → ⊥) → Good n (x, v)
 refuses n x v d = record { finite = λ e. absurd (d e); long = λ e. absurd (d e) }
 
-pub unless_good : (n : ℕ) (b : Bad) (x : Vec) (o : Answer × Vec) → Good n o → Good n (unless_bad b x o)
-unless_good n (At i c) x o g = refuses n _ _ (λ z. omega arith)
-unless_good n Nowhere x o g = g
+pub unless_good : (n : ℕ) (b : Option Bad) (x : Vec) (o : Answer × Vec) → Good n o → Good n (unless_bad b x o)
+unless_good n (Some bad) x o g = refuses n _ _ (λ z. omega arith)
+unless_good n None x o g = g
 
 pub check_good : (n : ℕ) (c : Answer) (x : Vec) (o : Answer × Vec) → Good n o → Good n (cond (passed c) o (c, x))
 check_good n c x o g = go (passed c) refl

@@ -1,8 +1,7 @@
 -- The four numbers that a call comes back with, and the length of an svd result. Definitions only.
-use Rattle.std.specs.Prelude.{Bool, cond, ℕ, ◌+◌, ◌*◌, ltb, eqb, length}
-use Rattle.grid.specs.Real.{Vec, zeros}
 use Rattle.leaves.specs.declared.Bad.{Bad}
-use Rattle.leaves.specs.declared.Bad.TheVariants.{At, Nowhere}
+use Rattle.std.specs.Prelude.{Bool, cond, ℕ, ◌+◌, ◌*◌, ltb, eqb, length, Option, Some, None}
+use Rattle.grid.specs.Real.{Vec, zeros}
 use Rattle.answers.specs.declared.Answer.{Answer}
 
 -- answer, place, index, count
@@ -26,18 +25,18 @@ abbrev pub emptied : Answer → Vec → Answer × Vec
 emptied r x = (r, zeros (length x))
 
 -- refusal 7: the place is the index of the number that is not finite
-abbrev pub refusal7 : Bad → Answer
-refusal7 (At k c) = refused 7 k
-refusal7 Nowhere = done 0
+abbrev pub refusal7 : Option Bad → Answer
+refusal7 (Some bad) = refused 7 bad.index
+refusal7 None = done 0
 
 -- refusal 7, or else the rest, where x is the one array that the refusal fills with +0.0
-abbrev pub unless_bad : Bad → Vec → Answer × Vec → Answer × Vec
+abbrev pub unless_bad : Option Bad → Vec → Answer × Vec → Answer × Vec
 unless_bad b x rest = cond (passed (refusal7 b)) rest (emptied (refusal7 b) x)
 
 -- what a mark answers after so many passes or sweeps: 8 or 10 by the class of the first number that is not finite, and its index, or else done
-abbrev pub marked : ℕ → ℕ → Bad → Answer
-marked mark count (At k c) = answered c mark k count
-marked mark count Nowhere = done count
+abbrev pub marked : ℕ → ℕ → Option Bad → Answer
+marked mark count (Some bad) = answered bad.class mark bad.index count
+marked mark count None = done count
 
 -- r, the smaller of m and n
 unfoldable pub least : ℕ → ℕ → ℕ

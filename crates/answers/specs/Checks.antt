@@ -1,5 +1,5 @@
 -- The checks that several calls share. Definitions only.
-use Rattle.std.specs.Prelude.{Bool, cond, not, ◌&&◌, ℕ, leb, eqb, Float}
+use Rattle.std.specs.Prelude.{Bool, cond, not, ◌&&◌, ℕ, leb, eqb, Float, List, Option, Some, None, position}
 use Rattle.std.specs.Float.Ieee.{le}
 use Rattle.grid.specs.Real.{zero64}
 use Rattle.answers.specs.Answers.{done, refused}
@@ -20,6 +20,17 @@ tolerance_good tol = le zero64 tol
 -- refusal 6: the place is the first array whose length is not the one wanted
 unfoldable pub lengths : ℕ → ℕ → ℕ → ℕ → ℕ → ℕ → Answer
 lengths a want_a b want_b c want_c = cond (eqb a want_a) (cond (eqb b want_b) (cond (eqb c want_c) (done 0) (refused 6 2)) (refused 6 1)) (refused 6 0)
+
+-- the same of any number of arrays, each by its length and the one wanted
+abbrev pub verdict_at : Option ℕ → Answer
+verdict_at (Some array) = refused 6 array
+verdict_at None = done 0
+
+abbrev pub unequal : List (ℕ × ℕ) → Option ℕ
+unequal pairs = position (λ p. not (eqb p.0 p.1)) pairs
+
+abbrev pub lengths_of : List (ℕ × ℕ) → Answer
+lengths_of pairs = verdict_at (unequal pairs)
 
 -- refusal 11, and behind it 6: of a call with a tolerance and two arrays
 unfoldable pub fitting : Float → ℕ → ℕ → ℕ → ℕ → Answer

@@ -1,9 +1,8 @@
 -- The checks that several calls share leave the index 0. Laws only.
-use Rattle.std.specs.Prelude.{◌≡◌, refl, Bool, true, false, cond, ℕ, ◌≤◌}
+use Rattle.leaves.specs.declared.Bad.{Bad}
+use Rattle.std.specs.Prelude.{◌≡◌, refl, Bool, true, false, cond, ℕ, ◌≤◌, Option, Some, None}
 use Rattle.std.proofs.Common.{⊎_elim, arith}
 use Rattle.grid.specs.Real.{Vec}
-use Rattle.leaves.specs.declared.Bad.{Bad}
-use Rattle.leaves.specs.declared.Bad.TheVariants.{At, Nowhere}
 use Rattle.answers.specs.Answers.{refused, passed, refusal7, unless_bad}
 use Rattle.answers.specs.Index.{AtMark, Indexed}
 use Rattle.answers.specs.declared.Answer.{Answer}
@@ -18,13 +17,13 @@ pub unless_index : (b : Bool) (k p : ℕ) (y : Answer) → y.index ≡ 0 → (co
 unless_index true k p y h = h
 unless_index false k p y h = refl
 
-pub refusal7_index : (b : Bad) → (refusal7 b).index ≡ 0
-refusal7_index (At k c) = refl
-refusal7_index Nowhere = refl
+pub refusal7_index : (b : Option Bad) → (refusal7 b).index ≡ 0
+refusal7_index (Some bad) = refl
+refusal7_index None = refl
 
-pub refusal7_most : (b : Bad) → (refusal7 b).answer ≤ 7
-refusal7_most (At k c) = omega arith
-refusal7_most Nowhere = omega arith
+pub refusal7_most : (b : Option Bad) → (refusal7 b).answer ≤ 7
+refusal7_most (Some bad) = omega arith
+refusal7_most None = omega arith
 
 -- ---- what the index says after them
 
@@ -41,9 +40,9 @@ module _ (Points : Answer → Type 0) where
   pub pointed : (x : Answer) → AtMark x → Points x → Indexed Points x
   pointed x m p = record { points = λ n. p; zero = λ d. absurd (d m) }
 
-  pub unless_indexed : (b : Bad) (x : Vec) (o : Answer × Vec) → Indexed Points o.0 → Indexed Points (unless_bad b x o).0
-  unless_indexed (At k c) x o i = below _ (omega arith) refl
-  unless_indexed Nowhere x o i = i
+  pub unless_indexed : (b : Option Bad) (x : Vec) (o : Answer × Vec) → Indexed Points o.0 → Indexed Points (unless_bad b x o).0
+  unless_indexed (Some bad) x o i = below _ (omega arith) refl
+  unless_indexed None x o i = i
 
   pub by_unmarked : {S : Type 0} (answer : S → Answer) (c : Answer) (o r : S) → answer r ≡ c → (AtMark c → ⊥) → c.index ≡ 0 → Indexed Points (answer o) → Indexed Points (answer (cond (passed c) o r))
   by_unmarked answer c o r e d z i = go (passed c)

@@ -1,5 +1,6 @@
 -- The answer of a call.
 pub mod Answers
+pub mod Refusals
 pub mod AnswersLaws
 pub mod Early
 pub mod Index

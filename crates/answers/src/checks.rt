@@ -1,27 +1,22 @@
 // The checks that several calls share.
 ghost use Rattle.std.specs.Prelude.{◌≡◌};
-ghost use Rattle.answers.specs.Checks.{limit_good, edition_good, tolerance_good, lengths, fitting, fitting_edition};
+ghost use Rattle.answers.specs.Refusals.{verdict};
+ghost use Rattle.answers.specs.Checks.{limit_good, edition_good, tolerance_good, unequal, lengths_of, fitting, fitting_edition};
 
-use crate::{Answer, done, refused};
+use crate::refusal::Refusal;
 
-// A pass or sweep limit is 1 to 60.
+// A pass or sweep limit is 1 to 60. One function with the bound as an argument, for editions too, would be no plainer.
 pub fn limit_good(limit: usize) -> bool
     ensures { result ≡ limit_good limit }
 {
-    if limit < 1 {
-        return false;
-    }
-    limit <= 60
+    (1 <= limit) & (limit <= 60)
 }
 
 // An edition of hypot is 1 or 2.
 pub fn edition_good(edition: usize) -> bool
     ensures { result ≡ edition_good edition }
 {
-    if edition < 1 {
-        return false;
-    }
-    edition <= 2
+    (1 <= edition) & (edition <= 2)
 }
 
 // A tolerance is 0 or above. -0.0 equals 0; a NaN does not, and is not above it.
@@ -31,33 +26,40 @@ fn tolerance_good(tolerance: f64) -> bool
     tolerance >= 0.0
 }
 
-// Refusal 6 with the first array whose length is not the one wanted, or done.
-pub fn lengths(a: usize, want_a: usize, b: usize, want_b: usize, c: usize, want_c: usize) -> Answer
-    ensures { result ≡ lengths a want_a b want_b c want_c }
+// The first length that is not the one wanted beside it.
+fn unequal(pairs: &[(usize, usize)]) -> Option<usize>
+    ensures { result ≡ unequal pairs.now }
 {
-    if a != want_a {
-        return refused(6, 0);
-    }
-    if b != want_b {
-        return refused(6, 1);
-    }
-    if c != want_c {
-        return refused(6, 2);
-    }
-    done(0)
+    pairs.iter().position(|p| p.0 != p.1)
 }
 
-// Refusal 11, or 6 as in `lengths`, or done: of a call with a tolerance and two arrays.
-pub fn fitting(tolerance: f64, a: usize, want_a: usize, b: usize, want_b: usize) -> Answer
-    ensures { result ≡ fitting tolerance a want_a b want_b }
+// Arrays, each by its length and the one wanted.
+pub fn lengths(pairs: &[(usize, usize)]) -> Result<(), Refusal>
+    ensures { verdict result ≡ lengths_of pairs.now }
+{
+    match unequal(pairs) {
+        Some(array) => Err(Refusal::Length(array)),
+        None => Ok(()),
+    }
+}
+
+// A tolerance, then two arrays.
+pub fn fitting(
+    tolerance: f64,
+    a: usize,
+    want_a: usize,
+    b: usize,
+    want_b: usize,
+) -> Result<(), Refusal>
+    ensures { verdict result ≡ fitting tolerance a want_a b want_b }
 {
     if !tolerance_good(tolerance) {
-        return refused(11, 0);
+        return Err(Refusal::Tolerance);
     }
-    lengths(a, want_a, b, want_b, 0, 0)
+    lengths(&[(a, want_a), (b, want_b)])
 }
 
-// Refusal 12, or 6 as in `lengths`, or done: of a call with an edition and three arrays.
+// An edition, then three arrays.
 pub fn fitting_edition(
     edition: usize,
     a: usize,
@@ -66,11 +68,11 @@ pub fn fitting_edition(
     want_b: usize,
     c: usize,
     want_c: usize,
-) -> Answer
-    ensures { result ≡ fitting_edition edition a want_a b want_b c want_c }
+) -> Result<(), Refusal>
+    ensures { verdict result ≡ fitting_edition edition a want_a b want_b c want_c }
 {
     if !edition_good(edition) {
-        return refused(12, 0);
+        return Err(Refusal::Edition);
     }
-    lengths(a, want_a, b, want_b, c, want_c)
+    lengths(&[(a, want_a), (b, want_b), (c, want_c)])
 }

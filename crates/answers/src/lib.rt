@@ -2,14 +2,15 @@
 #![tactic(auto)]
 
 pub mod checks; // The checks that several calls share
+pub mod refusal; // Why a call is refused, by the names of the C header: all but what a run comes to at its marks or its limit
 
 ghost use Rattle.std.specs.Prelude.{◌≡◌, ◌≤◌};
-ghost use Rattle.answers.specs.Answers.{answered, done, refused, emptied, refusal7, marked, least, present, decomposition_length};
+ghost use Rattle.answers.specs.Answers.{answered, done, refused, emptied, marked, least, present, decomposition_length};
 
 use grid::fill;
 use leaves::Bad;
 
-// The four numbers: answer is 0 where the call is done, else the refusal.
+// The four numbers: answer is 0 where the call is done, else the refusal. C gets them, and so a run gives them whole: a done one has a count, and that of `lanczos` a place.
 #[repr(C)]
 #[derive(Clone, Copy)]
 pub struct Answer {
@@ -53,23 +54,13 @@ pub fn refuse(r: Answer, x: &mut [f64]) -> Answer
     r
 }
 
-// Refusal 7 with its place, or done.
-pub fn refusal7(b: Bad) -> Answer
-    ensures { result ≡ refusal7 b }
-{
-    match b {
-        Bad::At(k, _) => refused(7, k),
-        Bad::Nowhere => done(0),
-    }
-}
-
 // What a mark answers after so many passes or sweeps: 8 or 10, or done.
-pub fn marked(mark: usize, count: usize, b: Bad) -> Answer
+pub fn marked(mark: usize, count: usize, b: Option<Bad>) -> Answer
     ensures { result ≡ marked mark count b }
 {
     match b {
-        Bad::At(k, c) => answered(c, mark, k, count),
-        Bad::Nowhere => done(count),
+        Some(bad) => answered(bad.class, mark, bad.index, count),
+        None => done(count),
     }
 }
 
@@ -80,7 +71,7 @@ pub fn least(m: usize, n: usize) -> usize
     if m < n { m } else { n }
 }
 
-// count where the flag is not 0, else nothing.
+// count where the flag is not 0, else nothing. Flags are numbers, as C gives them.
 pub fn present(flag: usize, count: usize) -> usize
     ensures { result ≡ present flag count }
 {

@@ -1,11 +1,15 @@
 -- What an answer of 0 says, and the steps of the reader's loop over the entries. Laws only.
-use Rattle.std.specs.Prelude.{◌≡◌, refl, Bool, true, false, cond, List, ℕ, zero, suc, ◌+◌, ◌-◌, ◌*◌, ◌≤◌, ◌<◌, ltb, leb, eqb, length}
-use Rattle.std.proofs.Common.{sym, ap, ◌∙◌, le_antisymm, arith, ltb-false, leb-false, eqb-true, le-ltb, eq-eqb, ne_eqb}
+use Rattle.std.specs.Prelude.{◌≡◌, refl, Some, Result, Ok, Err, IfOk, Bool, true, false, cond, List, ℕ, zero, suc, ◌+◌, ◌-◌, ◌*◌, ◌≤◌, ◌<◌, ltb, leb, eqb, length}
+use Rattle.std.specs.Result.{result_ok, IsErrAnd}
+use Rattle.std.proofs.Common.{sym, subst, ap, ◌∙◌, le_antisymm, arith, ltb-false, leb-false, eqb-true, le-ltb, eq-eqb, ne_eqb}
 use Rattle.std.proofs.lemmas.Bool.{eqb-false, lt-leb}
 use Rattle.answers.specs.Answers.{least}
 use Rattle.answers.specs.AnswersLaws.{least_le, product_le}
 use Rattle.octets.specs.Bytes.{num}
 use Rattle.block_read.specs.Content.{size}
+use Rattle.block_read.specs.Refusals.{refusal_number, number_of}
+use Rattle.block_read.specs.declared.refusal.BlockRefusal.{BlockRefusal}
+use Rattle.block_read.specs.declared.refusal.BlockRefusal.TheVariants.{Length, Short, Over, Count, Kind, Offset}
 use Rattle.block_read.specs.Reading.{or_else, dimensions, head_answer, entry_answer, end_answer, entries, behind, answer_of}
 
 pub size_most : (r c k : ℕ) → r ≤ 256 → c ≤ 256 → size r c k ≤ 65536
@@ -17,6 +21,42 @@ size_most r c k p q = go (eqb k 1)
     go false = product_le r c p q
 
 -- ---- answers
+
+pub no_refusal : (r : BlockRefusal) → refusal_number r ≡ 0 → ⊥
+no_refusal Length h = omega (arith, h)
+no_refusal Short h = omega (arith, h)
+no_refusal Over h = omega (arith, h)
+no_refusal Count h = omega (arith, h)
+no_refusal Kind h = omega (arith, h)
+no_refusal Offset h = omega (arith, h)
+
+-- nothing is refused where there is a value
+pub passes : {A : Type 0} (x : Result A BlockRefusal) {a : A} → result_ok x ≡ Some a → number_of x ≡ 0
+passes {A} x {a} = go x
+  where
+    go : (y : Result A BlockRefusal) → result_ok y ≡ Some a → number_of y ≡ 0
+    go (Ok b) h = refl
+    go (Err r) h = cc
+
+-- and then it is as said
+pub at_ok : {A : Type 0} (P : A → Type 0) (x : Result A BlockRefusal) {a : A} → result_ok x ≡ Some a → IfOk x P → P a
+at_ok {A} P x {a} = go x
+  where
+    go : (y : Result A BlockRefusal) → result_ok y ≡ Some a → IfOk y P → P a
+    go (Ok b) h p =
+        let e : b ≡ a = cc in
+        subst P e p
+    go (Err r) h p =
+        let z : ◌≡◌ {A = ℕ} 0 1 = cc in
+        absurd (omega arith)
+
+-- a refusal that `?` sends on
+pub sent_on : {A : Type 0} (x : Result A BlockRefusal) (r : BlockRefusal) → IsErrAnd x (λ e. e ≡ r) → number_of x ≡ refusal_number r
+sent_on {A} x r = go x
+  where
+    go : (y : Result A BlockRefusal) → IsErrAnd y (λ e. e ≡ r) → number_of y ≡ refusal_number r
+    go (Ok b) h = absurd h
+    go (Err e) h = ap refusal_number h
 
 pub or_else_lem : (a b : ℕ) → or_else a b ≡ 0 → (a ≡ 0) × (b ≡ 0)
 or_else_lem a b = go (eqb a 0) refl
@@ -102,11 +142,6 @@ unfolding end_answer
 ended_pass len off e = rw (le-ltb len off (omega arith), le-ltb off len (omega arith))
 
 -- ---- the reader's loop over the entries, n of them: what is left gives what the whole gives
-
-pub entries_start : (t : List ℕ) (r c n last off : ℕ) → entries t r c (n - 0) (12 + 12 * 0) last off ≡ entries t r c n 12 last off
-entries_start t r c n last off =
-    let e : n - 0 ≡ n = omega arith in
-    ap (λ (k : ℕ). entries t r c k 12 last off) e
 
 pub entries_here : (t : List ℕ) (r c n i last off : ℕ) {a R : ℕ} → i < n → a ≡ entry_answer t r c (12 + 12 * i) last off → (a ≡ 0 → ⊥)
     → entries t r c (n - i) (12 + 12 * i) last off ≡ R → a ≡ R

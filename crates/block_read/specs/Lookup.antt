@@ -1,5 +1,5 @@
 -- The lookup over two blocks: which part of which, as bytes, as a place in memory, by its numbers and as doubles. Definitions only.
-use Rattle.std.specs.Prelude.{cond, List, [], map, ℕ, ◌+◌, ◌*◌, ◌/◌, ◌-◌, eqb, length, take, drop}
+use Rattle.std.specs.Prelude.{cond, List, [], map, Option, Some, None, ℕ, ◌+◌, ◌*◌, ◌/◌, ◌-◌, eqb, length, take, drop}
 use Rattle.grid.specs.Real.{Vec}
 use Rattle.answers.specs.Answers.{answered, refused}
 use Rattle.answers.specs.declared.Answer.{Answer}
@@ -9,31 +9,37 @@ use Rattle.block_read.specs.Content.{size}
 use Rattle.block_read.specs.Reading.{answer_of}
 use Rattle.block_read.specs.Held.{place_in}
 use Rattle.block_read.specs.declared.lookup.Found.{Found}
-use Rattle.block_read.specs.declared.lookup.Span.{Span}
-use Rattle.block_read.specs.declared.lookup.Span.TheVariants.{At, Missing}
+
+-- a part's start and end in its block
+abbrev pub Span : Type 0
+Span = Option (ℕ × ℕ)
+
+-- a place, where 0 says that there is none
+abbrev pub placed : ℕ → Option ℕ
+placed at = cond (eqb at 0) None (Some at)
 
 -- where the part of a kind stands in a block; a refused block has none
 unfoldable pub span_of : List ℕ → ℕ → Span
 span_of t kind =
     let at = place_in t (num 4 t 8) 12 kind in
-    cond (eqb (answer_of t) 0) (cond (eqb at 0) Missing (At at (at + 8 * size (num 4 t 0) (num 4 t 4) kind))) Missing
+    cond (eqb (answer_of t) 0) (cond (eqb at 0) None (Some (at, at + 8 * size (num 4 t 0) (num 4 t 4) kind))) None
 
 -- the bytes of a span; none where there is none
 abbrev pub part_of : List ℕ → Span → List ℕ
-part_of t (At a e) = take (e - a) (drop a t)
-part_of t Missing = []
+part_of t (Some (a, e)) = take (e - a) (drop a t)
+part_of t None = []
 
 -- where that part starts in memory, for a block that starts at p: an allocation and an offset in it
 abbrev pub part_at : ℕ × ℕ → Span → ℕ × ℕ
-part_at p (At a e) = (p.0, a + p.1)
-part_at p Missing = p
+part_at p (Some (a, e)) = (p.0, a + p.1)
+part_at p None = p
 
 -- ---- the tile's own block before the main one
 
 -- x where the tile's own block has the part, else y
 abbrev pub first : {A : Type 0} → Span → A → A → A
-first (At a e) x y = x
-first Missing x y = y
+first (Some _) x y = x
+first None x y = y
 
 -- its bytes
 unfoldable pub lookup : List ℕ → List ℕ → ℕ → List ℕ
@@ -45,9 +51,9 @@ lookup_at p own q main kind = first (span_of own kind) (part_at p (span_of own k
 
 -- the same by its numbers, as `Found` has them: of a block t that is the tile's own (1) or the main one (2), with both answers
 abbrev pub found_in : ℕ → List ℕ → Span → ℕ → ℕ → Found
-found_in block t (At a e) x y =
+found_in block t (Some (a, e)) x y =
     record { block = block; start = a; count = (e - a) / 8; rows = num 4 t 0; columns = num 4 t 4; own_answer = x; main_answer = y }
-found_in block t Missing x y = record { block = 0; start = 0; count = 0; rows = 0; columns = 0; own_answer = x; main_answer = y }
+found_in block t None x y = record { block = 0; start = 0; count = 0; rows = 0; columns = 0; own_answer = x; main_answer = y }
 
 -- the tile's own part by its three numbers, else the main block's
 unfoldable pub found : List ℕ → List ℕ → ℕ → Found

@@ -1,14 +1,19 @@
 // What is in a transform block: where its parts stand, the part of a kind from the tile's own block or the main one, and its numbers as doubles.
 ghost use Rattle.std.specs.Prelude.{◌≡◌, ◌+◌, ◌*◌, ◌≤◌, length};
+ghost use Rattle.octets.specs.Bytes.{num};
+ghost use Rattle.block_read.specs.Reading.{answer_of};
 ghost use Rattle.block_read.specs.Held.{place_in, held, block_read, shape_of};
-ghost use Rattle.block_read.specs.Lookup.{span_of, part_of, part_at, lookup, lookup_at, found_in, found, copied};
-ghost use Rattle.block_read.specs.LookupLaws.{Within, copied_to};
+ghost use Rattle.block_read.specs.Lookup.{placed, span_of, part_of, part_at, lookup, lookup_at, found, copied};
+ghost use Rattle.block_read.specs.LookupLaws.{Within, copied_to, found_here};
 
-use crate::{answer, size};
-use answers::{Answer, answered, done, refused};
+use crate::header::Header;
+use crate::refusal::BlockRefusal;
+use crate::{answer, taken};
+use answers::{Answer, answered, done};
 use octets::{floats, number};
 
 // What a block holds: where each part starts and how many numbers it has, both 0 where it is absent. Of a refused block only the answer is not 0.
+// It stays nine numbers: t18_recorded and t18_refused_record speak of them.
 #[derive(Clone, Copy)]
 pub struct Block {
     pub answer: Answer,
@@ -24,7 +29,7 @@ pub struct Block {
 
 // The same in four numbers, for a caller in C: the answer, rows, columns, how many parts.
 #[repr(C)]
-#[derive(Clone, Copy)]
+#[derive(Clone, Copy, Default)]
 pub struct Shape {
     pub answer: usize,
     pub rows: usize,
@@ -32,16 +37,9 @@ pub struct Shape {
     pub parts: usize,
 }
 
-// A part's start and end in its block.
-#[derive(Clone, Copy)]
-pub enum Span {
-    At(usize, usize),
-    Missing,
-}
-
-// A part by its numbers: the block, 1 the tile's own, 2 the main one, its start there, how many doubles, the block's shape, or all 0; then the answer for each block.
+// A part by its numbers, for a caller in C: the block, 1 the tile's own, 2 the main one, its start there, how many doubles, the block's shape, or all 0; then the answer for each block.
 #[repr(C)]
-#[derive(Clone, Copy)]
+#[derive(Clone, Copy, Default)]
 pub struct Found {
     pub block: usize,
     pub start: usize,
@@ -54,37 +52,55 @@ pub struct Found {
 
 // ---- what a block holds
 
-// Where the numbers of a kind start, by the first of count entries that has it, or 0.
-fn place(t: &[u8], count: usize, kind: usize) -> usize
-    requires { (count ≤ 3) × (12 + 12 * count ≤ length t.now) }
-    ensures { result ≡ place_in t.now count 12 kind }
+// Where the numbers of a kind start, by the first entry that has it.
+fn place(t: &[u8], header: Header, kind: usize) -> Option<usize>
+    requires { (answer_of t.now ≡ 0) × (header.parts ≡ num 4 t.now 8) }
+    ensures { result ≡ placed (place_in t.now header.parts 12 kind) }
 {
-    for i in 0..count {
-        if number(t, 12 + 12 * i) == kind {
-            return number(t, 16 + 12 * i);
+    for i in 0..header.parts {
+        let at = 12 + 12 * i;
+        if number(t, at) == kind {
+            return Some(number(t, at + 4));
         }
     }
-    0
+    None
 }
 
-// How many numbers a part has that starts at `at`: none where it is absent.
-fn held(rows: usize, columns: usize, kind: usize, at: usize) -> usize
-    requires { (rows ≤ 256) × (columns ≤ 256) }
-    ensures { result ≡ held rows columns kind at }
+// Where the part of a kind starts and how many numbers it has: both 0 where it is absent.
+#[tactic(auto, unfolding(crate::specs::Held::held))]
+fn part_in(t: &[u8], header: Header, kind: usize) -> (usize, usize)
+    requires { (answer_of t.now ≡ 0) × (header.parts ≡ num 4 t.now 8) }
+    ensures { let at = place_in t.now header.parts 12 kind in result ≡ (at, held header.rows header.columns kind at) }
 {
-    if at == 0 {
-        return 0;
+    match place(t, header, kind) {
+        Some(at) => (at, header.size(kind)),
+        None => (0, 0),
     }
-    size(rows, columns, kind)
 }
 
+#[tactic(auto, unfolding(crate::specs::Held::block_read))]
 pub fn read(t: &[u8]) -> Block
     ensures { result ≡ block_read t.now }
 {
-    let a = answer(t);
-    if a != 0 {
-        return Block {
-            answer: refused(a, 0),
+    match taken(t) {
+        Ok(header) => {
+            let (values_at, values) = part_in(t, header, 1);
+            let (matrix_at, matrix) = part_in(t, header, 2);
+            let (inverse_at, inverse) = part_in(t, header, 3);
+            Block {
+                answer: done(0),
+                rows: header.rows,
+                columns: header.columns,
+                values_at,
+                values,
+                matrix_at,
+                matrix,
+                inverse_at,
+                inverse,
+            }
+        }
+        Err(r) => Block {
+            answer: r.into(),
             rows: 0,
             columns: 0,
             values_at: 0,
@@ -93,62 +109,45 @@ pub fn read(t: &[u8]) -> Block
             matrix: 0,
             inverse_at: 0,
             inverse: 0,
-        };
-    }
-    let rows = number(t, 0);
-    let columns = number(t, 4);
-    let count = number(t, 8);
-    let v = place(t, count, 1);
-    let m = place(t, count, 2);
-    let i = place(t, count, 3);
-    Block {
-        answer: done(0),
-        rows: rows,
-        columns: columns,
-        values_at: v,
-        values: held(rows, columns, 1, v),
-        matrix_at: m,
-        matrix: held(rows, columns, 2, m),
-        inverse_at: i,
-        inverse: held(rows, columns, 3, i),
+        },
     }
 }
 
+#[tactic(auto, unfolding(crate::specs::Held::shape_of))]
 pub fn shape_of(t: &[u8]) -> Shape
     ensures { result ≡ shape_of t.now }
 {
-    let a = answer(t);
-    if a != 0 {
-        return Shape {
-            answer: a,
-            rows: 0,
-            columns: 0,
-            parts: 0,
-        };
-    }
-    Shape {
-        answer: 0,
-        rows: number(t, 0),
-        columns: number(t, 4),
-        parts: number(t, 8),
+    match taken(t) {
+        Ok(
+            Header {
+                rows,
+                columns,
+                parts,
+            },
+        ) => Shape {
+            answer: 0,
+            rows,
+            columns,
+            parts,
+        },
+        Err(r) => Shape {
+            answer: r.into(),
+            ..Shape::default()
+        },
     }
 }
 
 // ---- the lookup
 
-// Where the part of a kind stands in a block. A refused block has none.
-fn span_of(t: &[u8], kind: usize) -> Span
+// Where the part of a kind starts and ends in a block. A refused block has none.
+#[tactic(auto, unfolding(crate::specs::Lookup::span_of))]
+fn span_of(t: &[u8], kind: usize) -> Option<(usize, usize)>
     ensures value { result ≡ span_of t.now kind }
     ensures within { Within (length t.now) result }
 {
-    if answer(t) != 0 {
-        return Span::Missing;
-    }
-    let at = place(t, number(t, 8), kind);
-    if at == 0 {
-        return Span::Missing;
-    }
-    Span::At(at, at + 8 * size(number(t, 0), number(t, 4), kind))
+    let header = taken(t).ok()?;
+    let at = place(t, header, kind)?;
+    Some((at, at + 8 * header.size(kind)))
 }
 
 // The part of a kind, or the block's empty start.
@@ -156,61 +155,53 @@ fn part<'a>(t: &'a [u8], kind: usize) -> &'a [u8]
     ensures result_value { result.now ≡ part_of t.now (span_of t.now kind) }
     ensures ref_ptr_value { result.ref_ptr ≡ part_at t.entry.ref_ptr (span_of t.now kind) }
 {
-    let Span::At(a, e) = span_of(t, kind) else {
-        return &t[0..0];
-    };
-    &t[a..e]
+    match span_of(t, kind) {
+        Some((a, e)) => &t[a..e],
+        None => &t[..0],
+    }
 }
 
 // The part of a kind from the tile's own block where it has one, else from the main block, else the main block's empty start.
+#[tactic(auto, unfolding(crate::specs::Lookup::lookup, crate::specs::Lookup::lookup_at))]
 pub fn find<'a>(own: &'a [u8], main: &'a [u8], kind: usize) -> &'a [u8]
     ensures result_value { result.now ≡ lookup own.now main.now kind }
     ensures ref_ptr_value { result.ref_ptr ≡ lookup_at own.entry.ref_ptr own.now main.entry.ref_ptr main.now kind }
 {
-    let Span::At(a, e) = span_of(own, kind) else {
-        return part(main, kind);
-    };
-    &own[a..e]
+    match span_of(own, kind) {
+        Some((a, e)) => &own[a..e],
+        None => part(main, kind),
+    }
 }
 
 // The part of a kind of one block, by its numbers, with both answers as told.
-fn found_in(block: usize, t: &[u8], kind: usize, own_answer: usize, main_answer: usize) -> Found
-    ensures { result ≡ found_in block t.now (span_of t.now kind) own_answer main_answer }
+fn found_in(block: usize, t: &[u8], kind: usize, told: Found) -> Option<Found>
+    ensures { result ≡ found_here block t.now (span_of t.now kind) told }
 {
-    let Span::At(a, e) = span_of(t, kind) else {
-        return Found {
-            block: 0,
-            start: 0,
-            count: 0,
-            rows: 0,
-            columns: 0,
-            own_answer: own_answer,
-            main_answer: main_answer,
-        };
-    };
-    let long = e - a;
-    Found {
-        block: block,
+    let (a, e) = span_of(t, kind)?;
+    Some(Found {
+        block,
         start: a,
-        count: long / 8,
+        count: (e - a) / 8,
         rows: number(t, 0),
         columns: number(t, 4),
-        own_answer: own_answer,
-        main_answer: main_answer,
-    }
+        ..told
+    })
 }
 
 // The same part as `find` gives, by its numbers.
+#[tactic(auto, unfolding(crate::specs::Lookup::found))]
 pub fn locate(own: &[u8], main: &[u8], kind: usize) -> Found
     ensures { result ≡ found own.now main.now kind }
 {
-    let x = answer(own);
-    let y = answer(main);
-    let r = found_in(1, own, kind, x, y);
-    if r.block == 0 {
-        return found_in(2, main, kind, x, y);
+    let told = Found {
+        own_answer: answer(own),
+        main_answer: answer(main),
+        ..Found::default()
+    };
+    if let Some(found) = found_in(1, own, kind, told) {
+        return found;
     }
-    r
+    found_in(2, main, kind, told).unwrap_or(told)
 }
 
 // ---- as doubles
@@ -220,13 +211,14 @@ fn copy_part(place: usize, part: &[u8], out: &mut [f64]) -> Answer
     ensures { (result, out.new) ≡ copied_to place part.now out.old }
 {
     if part.len() / 8 != out.len() {
-        return refused(6, 0);
+        return BlockRefusal::Length.into();
     }
     floats(part, out);
     answered(0, place, 0, 0)
 }
 
 // The doubles of the part that `find` gives. On 0 the place is the reader's answer for the tile's own block, so that a refused one is seen.
+#[tactic(auto, unfolding(crate::specs::Lookup::copied))]
 pub fn copy<'a>(own: &'a [u8], main: &'a [u8], kind: usize, out: &mut [f64]) -> Answer
     ensures { (result, out.new) ≡ copied own.now main.now kind out.old }
 {

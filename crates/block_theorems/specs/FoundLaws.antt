@@ -1,5 +1,5 @@
 -- What the reader's record and the lookup say of a block's content: a part that is found is the part of that kind, and none is found where there is none. Laws only.
-use Rattle.std.specs.Prelude.{◌≡◌, refl, Bool, true, false, cond, List, [], map, ℕ, zero, suc, ◌+◌, ◌-◌, ◌*◌, ◌/◌, ◌<◌, eqb, length, take, drop}
+use Rattle.std.specs.Prelude.{◌≡◌, refl, Bool, true, false, cond, Some, None, List, [], map, ℕ, zero, suc, ◌+◌, ◌-◌, ◌*◌, ◌/◌, ◌<◌, eqb, length, take, drop}
 use Rattle.std.proofs.Common.{sym, true≢false, not-suc-le-zero, arith, eq-eqb, ne_eqb, eqb-true, take_all}
 use Rattle.grid.specs.Real.{Vec}
 use Rattle.answers.specs.Answers.{answered, refused}
@@ -12,9 +12,7 @@ use Rattle.block_read.specs.Reading.{entry_answer, entries, answer_of, parts_at,
 use Rattle.block_read.specs.Reading as reads
 use Rattle.block_read.specs.CheckLaws.{or_else_lem, entry_good, entries_within, opened}
 use Rattle.block_read.specs.Held.{place_in, held, no_block, block_read}
-use Rattle.block_read.specs.Lookup.{span_of, part_of, first, lookup, copied}
-use Rattle.block_read.specs.declared.lookup.Span.{Span}
-use Rattle.block_read.specs.declared.lookup.Span.TheVariants.{At, Missing}
+use Rattle.block_read.specs.Lookup.{Span, span_of, part_of, first, lookup, copied}
 use Rattle.block_theorems.specs.Sound.{has_part, part_words, has_in, words_in, chosen, Spanned, Recorded}
 
 -- ---- the search
@@ -64,7 +62,7 @@ known_place t kind g e =
 
 -- where a part is found, and what it is
 spanned_at : (t : List ℕ) (n p : ℕ) (x : Bool) (ws : List ℕ) → FoundAt t n p x ws
-    → (first (cond (eqb p 0) Missing (At p (p + 8 * n))) true false ≡ x) × (part_of t (cond (eqb p 0) Missing (At p (p + 8 * n))) ≡ words_bytes ws)
+    → (first (cond (eqb p 0) None (Some (p, p + 8 * n))) true false ≡ x) × (part_of t (cond (eqb p 0) None (Some (p, p + 8 * n))) ≡ words_bytes ws)
 unfolding words_bytes
 spanned_at t n p true ws f =
     let ne : p ≡ 0 → ⊥ = λ e. omega (arith, f.0) in
@@ -94,10 +92,10 @@ lookup_is own main kind g h =
     go : (s : Span) (x : Bool) → first s true false ≡ x → part_of own s ≡ words_bytes (words_in kind (reading own))
         → part_of main (span_of main kind) ≡ words_bytes (words_in kind (reading main))
         → first s (part_of own s) (part_of main (span_of main kind)) ≡ words_bytes (cond x (words_in kind (reading own)) (words_in kind (reading main)))
-    go (At a e) true h p q = p
-    go (At a e) false h p q = absurd (true≢false h)
-    go Missing true h p q = absurd (true≢false (sym h))
-    go Missing false h p q = q
+    go (Some (a, e)) true h p q = p
+    go (Some (a, e)) false h p q = absurd (true≢false h)
+    go None true h p q = absurd (true≢false (sym h))
+    go None false h p q = q
 
 -- a refused own block leaves the main one's part
 pub refused_own : (own main : List ℕ) (kind : ℕ) → (answer_of own ≡ 0 → ⊥) → chosen own main kind ≡ words_in kind (reading main)

@@ -3,69 +3,40 @@
 
 mod put_entries; // The entries of a transform block, written
 
-ghost use Rattle.std.specs.Prelude.{◌≡◌, ◌+◌, ◌*◌, ◌≤◌, length};
+ghost use Rattle.std.specs.Prelude.{◌≡◌, ◌+◌, ◌*◌, ◌≤◌, map, sum_by, take, length, IfOk};
 ghost use Rattle.std.proofs.lemmas.List.Edits.{sets};
 ghost use Rattle.block_read.specs.Content.{numbers_bytes};
-ghost use Rattle.block_write.specs.Writing.{given, checked, length_of, written, doubles};
-ghost use Rattle.block_write.specs.PutLaws.{bytes_of, length_with, headed};
+ghost use Rattle.block_read.specs.Refusals.{number_of};
+ghost use Rattle.block_write.specs.Writing.{given, heads_answer, length_of, written, doubles};
+ghost use Rattle.block_write.specs.PutLaws.{bytes_of, head_counts, headed};
 
-use answers::{Answer, done, refused};
-use block_read::{dimensions, head, size};
-use octets::write::{put_floats, put_three, put_words};
+use crate::put_entries::put_entries;
+use answers::{Answer, done};
+use block_read::header::Header;
+use block_read::refusal::BlockRefusal;
+use octets::write::{Word, put_three, put_words};
 
-// Refusals 22 and 23, or 0, for the first count of three parts, each by its kind and count.
-fn checked(
-    rows: usize,
-    columns: usize,
-    count: usize,
-    k1: usize,
-    n1: usize,
-    k2: usize,
-    n2: usize,
-    k3: usize,
-    n3: usize,
-) -> usize
-    ensures { result ≡ checked rows columns count (given count (k1, n1) (k2, n2) (k3, n3)) }
+// ---- the parts, each by its kind and how many numbers it has
+
+// Refusals 23 and 22, in the reader's order.
+fn admit(header: Header, heads: &[(usize, usize)]) -> Result<(), BlockRefusal>
+    ensures { number_of result ≡ heads_answer header.rows header.columns 0 heads.now }
 {
-    let a = dimensions(rows, columns, count);
-    if a != 0 {
-        return a;
+    let mut last = 0;
+    for &(kind, n) in heads {
+        header.admit(last, kind, n)?;
+        last = kind;
     }
-    if count < 1 {
-        return 0;
-    }
-    let b = head(rows, columns, 0, k1, n1);
-    if b != 0 {
-        return b;
-    }
-    if count < 2 {
-        return 0;
-    }
-    let c = head(rows, columns, k1, k2, n2);
-    if c != 0 {
-        return c;
-    }
-    if count < 3 {
-        return 0;
-    }
-    head(rows, columns, k2, k3, n3)
+    Ok(())
 }
 
-// How many bytes a block takes with the first count of three parts of these counts.
-fn length_with(count: usize, n1: usize, n2: usize, n3: usize) -> usize
-    requires { (count ≤ 3) × (bytes_of (given count n1 n2 n3) ≤ 1572864) }
-    ensures { result ≡ length_with count (given count n1 n2 n3) }
+// How many bytes a block takes with these parts.
+fn length_with(heads: &[(usize, usize)]) -> usize
+    requires { (length heads.now ≤ 3) × (sum_by (λ h. h.1) heads.now ≤ 196608) }
+    ensures { result ≡ 12 + 12 * length heads.now + 8 * sum_by (λ h. h.1) heads.now }
 {
-    if count < 1 {
-        return 12;
-    }
-    if count < 2 {
-        return 24 + 8 * n1;
-    }
-    if count < 3 {
-        return 36 + 8 * n1 + 8 * n2;
-    }
-    48 + 8 * n1 + 8 * n2 + 8 * n3
+    let numbers: usize = heads.iter().map(|h| h.1).sum();
+    12 + 12 * heads.len() + 8 * numbers
 }
 
 // How many bytes the block of rows, columns and the first count of three kinds takes; 0 where the writer refuses it.
@@ -79,90 +50,85 @@ pub fn length_of(
 ) -> usize
     ensures { result ≡ length_of rows columns count k1 k2 k3 }
 {
-    if dimensions(rows, columns, count) != 0 {
+    let Ok(header) = Header::new(rows, columns, count) else {
         return 0;
+    };
+    let heads = [
+        (k1, header.size(k1)),
+        (k2, header.size(k2)),
+        (k3, header.size(k3)),
+    ];
+    match admit(header, &heads[..count]) {
+        Ok(()) => length_with(&heads[..count]),
+        Err(_) => 0,
     }
-    let n1 = size(rows, columns, k1);
-    let n2 = size(rows, columns, k2);
-    let n3 = size(rows, columns, k3);
-    if checked(rows, columns, count, k1, n1, k2, n2, k3, n3) != 0 {
-        return 0;
-    }
-    length_with(count, n1, n2, n3)
 }
 
-// ---- all but the numbers
-
-// The checks, and where they pass all of the block but its numbers: 0, or the refusal, which leaves out untouched.
+// The checks, and where they pass all of the block but its numbers, of the first count of three parts. A refusal leaves out untouched.
 fn headed(
     out: &mut [u8],
     rows: usize,
     columns: usize,
     count: usize,
-    k1: usize,
-    n1: usize,
-    k2: usize,
-    n2: usize,
-    k3: usize,
-    n3: usize,
-) -> usize
-    ensures { (result, out.new) ≡ headed rows columns count (given count (k1, n1) (k2, n2) (k3, n3)) (given count n1 n2 n3) out.old }
+    heads: &[(usize, usize)],
+) -> Result<Header, BlockRefusal>
+    requires { length heads.now ≡ 3 }
+    ensures put { let hs = take count heads.now in (number_of result, out.new) ≡ headed rows columns count hs (head_counts hs) out.old }
+    ensures is { IfOk result (λ h. h.parts ≡ count) }
 {
-    let a = checked(rows, columns, count, k1, n1, k2, n2, k3, n3);
-    if a != 0 {
-        return a;
-    }
-    if out.len() != length_with(count, n1, n2, n3) {
-        return 6;
+    let header = Header::new(rows, columns, count)?;
+    let heads = &heads[..count];
+    admit(header, heads)?;
+    if out.len() != length_with(heads) {
+        return Err(BlockRefusal::Length);
     }
     put_three(out, 0, rows, columns, count);
-    crate::put_entries::put_entries(out, 12 + 12 * count, count, k1, n1, k2, n2, k3, n3);
-    0
+    put_entries(out, header.numbers_at(), heads);
+    Ok(header)
 }
 
 // ---- the numbers
 
-// The numbers of the first count parts, from off on.
-fn put_numbers(out: &mut [u8], off: usize, count: usize, p1: &[u64], p2: &[u64], p3: &[u64])
-    requires { off + bytes_of (given count (length p1.now) (length p2.now) (length p3.now)) ≤ length out.old }
-    ensures { out.new ≡ sets out.old off (numbers_bytes (given count (0, p1.now) (0, p2.now) (0, p3.now))) }
+// The numbers of parts, from `at` on.
+fn put_numbers<W: Word>(out: &mut [u8], at: usize, parts: &[(usize, &[W])])
+    requires { at + bytes_of (map (λ p. length p.1.now) parts.now) ≤ length out.old }
+    ensures { out.new ≡ sets out.old at (numbers_bytes (map (λ p. (p.0, map W.word p.1.now)) parts.now)) }
 {
-    if count < 1 {
-        return;
+    let mut next = at;
+    for (_, numbers) in parts {
+        put_words(out, next, numbers);
+        next += 8 * numbers.len();
     }
-    put_words(out, off, p1);
-    if count < 2 {
-        return;
-    }
-    let second = off + 8 * p1.len();
-    put_words(out, second, p2);
-    if count < 3 {
-        return;
-    }
-    put_words(out, second + 8 * p2.len(), p3);
-}
-
-// The same of doubles.
-fn put_doubles(out: &mut [u8], off: usize, count: usize, p1: &[f64], p2: &[f64], p3: &[f64])
-    requires { off + bytes_of (given count (length p1.now) (length p2.now) (length p3.now)) ≤ length out.old }
-    ensures { out.new ≡ sets out.old off (numbers_bytes (given count (doubles 0 p1.now) (doubles 0 p2.now) (doubles 0 p3.now))) }
-{
-    if count < 1 {
-        return;
-    }
-    put_floats(out, off, p1);
-    if count < 2 {
-        return;
-    }
-    let second = off + 8 * p1.len();
-    put_floats(out, second, p2);
-    if count < 3 {
-        return;
-    }
-    put_floats(out, second + 8 * p2.len(), p3);
 }
 
 // ---- the writers
+
+// A part's kind and how many numbers it has.
+fn head<W: Word>(part: &(usize, &[W])) -> (usize, usize)
+    ensures { result ≡ (part.now.0, length part.now.1.now) }
+{
+    (part.0, part.1.len())
+}
+
+// The block of rows, columns and the first count of three parts. A refusal leaves out untouched.
+fn put<W: Word>(
+    out: &mut [u8],
+    rows: usize,
+    columns: usize,
+    count: usize,
+    parts: &[(usize, &[W]); 3],
+) -> Answer
+    ensures { (result, out.new) ≡ written rows columns count (take count (map (λ p. (p.0, map W.word p.1.now)) parts.now)) out.old }
+{
+    let heads = [head(&parts[0]), head(&parts[1]), head(&parts[2])];
+    match headed(out, rows, columns, count, &heads) {
+        Ok(header) => {
+            put_numbers(out, header.numbers_at(), &parts[..count]);
+            done(0)
+        }
+        Err(r) => r.into(),
+    }
+}
 
 // Writes the block of rows, columns and the first count of three parts, each by its kind and the bits of its numbers. A refusal leaves out untouched.
 pub fn write(
@@ -179,23 +145,7 @@ pub fn write(
 ) -> Answer
     ensures { (result, out.new) ≡ written rows columns count (given count (k1, p1.now) (k2, p2.now) (k3, p3.now)) out.old }
 {
-    let a = headed(
-        out,
-        rows,
-        columns,
-        count,
-        k1,
-        p1.len(),
-        k2,
-        p2.len(),
-        k3,
-        p3.len(),
-    );
-    if a != 0 {
-        return refused(a, 0);
-    }
-    put_numbers(out, 12 + 12 * count, count, p1, p2, p3);
-    done(0)
+    put(out, rows, columns, count, &[(k1, p1), (k2, p2), (k3, p3)])
 }
 
 // The same from doubles. A NaN is written as 7ff8000000000000.
@@ -213,21 +163,5 @@ pub fn write_doubles(
 ) -> Answer
     ensures { (result, out.new) ≡ written rows columns count (given count (doubles k1 p1.now) (doubles k2 p2.now) (doubles k3 p3.now)) out.old }
 {
-    let a = headed(
-        out,
-        rows,
-        columns,
-        count,
-        k1,
-        p1.len(),
-        k2,
-        p2.len(),
-        k3,
-        p3.len(),
-    );
-    if a != 0 {
-        return refused(a, 0);
-    }
-    put_doubles(out, 12 + 12 * count, count, p1, p2, p3);
-    done(0)
+    put(out, rows, columns, count, &[(k1, p1), (k2, p2), (k3, p3)])
 }

@@ -1,21 +1,18 @@
 -- 12 and 11 exactly: where `symmetric_eigen` refuses an edition, and where `solve` and `pseudo_inverse` refuse a tolerance. Laws only.
-use Rattle.std.specs.Prelude.{◌≡◌, ◌↔◌, ◌⊎◌, Bool, true, false, cond, not, ◌||◌, ◌++◌, ℕ, ◌+◌, ◌*◌, ◌≤◌, ltb, eqb, Float, length}
+use Rattle.leaves.specs.declared.Bad.{Bad}
+use Rattle.std.specs.Prelude.{◌≡◌, ◌↔◌, Bool, true, false, cond, not, ◌||◌, ◌++◌, ℕ, ◌+◌, ◌*◌, ◌≤◌, ltb, eqb, Float, length, Option, Some, None, is_some}
 use Rattle.std.proofs.Math.Path.{refl}
 use Rattle.std.proofs.Common.{sym, ap, ◌∙◌, subst, inl, inr, ⊎_elim, true≢false, arith, ltb-false, eqb-true}
 use Rattle.std.proofs.lemmas.Bool.{eqb-false}
-use Rattle.std.specs.Float.{nan}
-use Rattle.std.specs.Float.Ieee.{lt}
-use Rattle.grid.specs.Real.{Vec, zero64, at, zeros}
-use Rattle.leaves.specs.Scan.{is_bad, first_bad, first_bad_lower}
+use Rattle.grid.specs.Real.{Vec, at, zeros}
+use Rattle.leaves.specs.Scan.{first_bad, first_bad_lower}
 use Rattle.leaves.specs.ScanLaws.{scan_class}
 use Rattle.leaves.specs.FiniteLaws.{lower_finite}
-use Rattle.leaves.specs.declared.Bad.{Bad}
-use Rattle.leaves.specs.declared.Bad.TheVariants.{At, Nowhere}
 use Rattle.answers.specs.Answers.{done, refused, passed, refusal7, emptied, marked, unless_bad, decomposition_length}
 use Rattle.answers.proofs.OutcomeLaws.{none_seven}
 use Rattle.answers.specs.IndexLaws.{refusal7_most}
 use Rattle.answers.specs.declared.Answer.{Answer}
-use Rattle.answers.specs.Checks.{limit_good, edition_good, tolerance_good, lengths, fitting, fitting_edition}
+use Rattle.answers.specs.Checks.{limit_good, edition_good, tolerance_good, fitting, fitting_edition}
 use Rattle.answers.specs.ChecksLaws.{limit_right, lengths_few}
 use Rattle.answers.proofs.EditionLaws.{right_edition, edition_lengths, fitting_edition_right}
 use Rattle.answers.specs.ToleranceLaws.{tolerance_refused_exactly, fitting_11, fitting_lengths}
@@ -81,13 +78,13 @@ looked_other : (x : Vec) → (looked x).0.answer ≡ 11 → ⊥
 unfolding looked
 looked_other x = go (first_bad x) refl
   where
-    go : (b : Bad) → first_bad x ≡ b → (cond (is_bad b) (emptied (marked 2 0 b) x) (done 0, x)).0.answer ≡ 11 → ⊥
-    go (At i c) e h = ⊎_elim (λ f. omega arith) (λ f. omega arith) (scan_class (at x) (length x) i c e)
-    go Nowhere e h = omega arith
+    go : (b : Option Bad) → first_bad x ≡ b → (cond (is_some b) (emptied (marked 2 0 b) x) (done 0, x)).0.answer ≡ 11 → ⊥
+    go (Some bad) e h = ⊎_elim (λ f. omega arith) (λ f. omega arith) (scan_class (at x) (length x) bad.index bad.class e)
+    go None e h = omega arith
 
-run_other : (b : Bad) (x y : Vec) → (unless_bad b x (looked y)).0.answer ≡ 11 → ⊥
-run_other (At i c) x y h = omega arith
-run_other Nowhere x y h = looked_other y h
+run_other : (b : Option Bad) (x y : Vec) → (unless_bad b x (looked y)).0.answer ≡ 11 → ⊥
+run_other (Some bad) x y h = omega arith
+run_other None x y h = looked_other y h
 
 -- a check that refuses with 6 at the most, and what comes behind it
 behind : (f : Answer) (o : Answer × Vec) (x : Vec) → f.answer ≤ 6 → (o.0.answer ≡ 11 → ⊥) → (cond (passed f) o (f, x)).0.answer ≡ 11 → ⊥

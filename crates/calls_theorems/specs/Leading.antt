@@ -6,7 +6,6 @@ use Rattle.grid.specs.Real.{Vec, at}
 use Rattle.answers.specs.Answers.{done}
 use Rattle.answers.specs.declared.Answer.{Answer}
 use Rattle.eigen_symmetric_eigen.specs.SymmetricEigen.{eigen}
-use Rattle.eigen_tql2.specs.Sort.{sorted}
 use Rattle.eigen_theorems.specs.Outcome.{Outcome, Promised, Done, empty, worked}
 use Rattle.eigen_theorems.proofs.OutcomeLaws.{square, diagonal}
 use Rattle.eigen_theorems.proofs.Result.{gave, taken_of}

@@ -1,9 +1,8 @@
 -- What a call that takes a decomposition may still say. Definitions only.
 use Rattle.std.specs.Prelude.{◌≡◌, ◌⊎◌, true, false, ℕ, ◌+◌, Float, length}
 use Rattle.grid.specs.Real.{Vec}
-use Rattle.leaves.specs.Scan.{first_bad}
+use Rattle.leaves.specs.Scan.{first_bad, bad_at}
 use Rattle.leaves.specs.Finite.{Finite}
-use Rattle.leaves.specs.declared.Bad.TheVariants.{At}
 use Rattle.answers.specs.Answers.{answered, done, refused}
 use Rattle.answers.specs.declared.Answer.{Answer}
 use Rattle.answers.specs.Checks.{tolerance_good}
@@ -21,5 +20,5 @@ pub data Weighs (tol : Float) (x : Answer) : Type 0 where
 pub data Says (m l : ℕ) (tol : Float) (b : Vec) (x : Answer) : Type 0 where
   length_wrong : (length b ≡ m → ⊥) → x ≡ refused 5 0 → Says m l tol b x
   tolerance_bad : length b ≡ m → tolerance_good tol ≡ false → x ≡ refused 11 0 → Says m l tol b x
-  not_finite : length b ≡ m → tolerance_good tol ≡ true → (i c : ℕ) → first_bad b ≡ At i c → x ≡ refused 7 (l + i) → Says m l tol b x
+  not_finite : length b ≡ m → tolerance_good tol ≡ true → (i c : ℕ) → first_bad b ≡ bad_at i c → x ≡ refused 7 (l + i) → Says m l tol b x
   ends : length b ≡ m → tolerance_good tol ≡ true → Finite b → Ends x → Says m l tol b x

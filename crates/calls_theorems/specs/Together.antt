@@ -1,5 +1,6 @@
 -- An svd that is done, with both factors, is taken by `pseudo_inverse` and by `solve`: neither refuses the decomposition, but only a tolerance or a right side. Laws only.
-use Rattle.std.specs.Prelude.{◌≡◌, Bool, cond, ◌++◌, ℕ, ◌+◌, ◌*◌, ◌<◌, Float}
+use Rattle.leaves.specs.declared.Bad.{Bad}
+use Rattle.std.specs.Prelude.{◌≡◌, Bool, cond, ◌++◌, ℕ, ◌*◌, ◌<◌, Float, Option, Some, None, is_some}
 use Rattle.std.proofs.Math.Path.{refl, ap}
 use Rattle.std.proofs.Common.{sym, ◌∙◌, subst, inl, inr}
 use Rattle.std.proofs.Math.Bool.{true, false}
@@ -7,11 +8,10 @@ use Rattle.std.proofs.Math.Decide.{ℕ_discrete}
 use borrow.Author.Tests.{eq-eqb}
 use Rattle.std.proofs.Math.ListN.{length}
 use Rattle.grid.specs.Real.{Vec, at}
-use Rattle.leaves.specs.Scan.{first_bad, is_bad}
-use Rattle.leaves.specs.ScanLaws.{or_else, behind, first_bad_none, first_bad_fine, scan_both, scan_class}
+use Rattle.std.specs.Option.{option_or}
+use Rattle.leaves.specs.Scan.{first_bad}
+use Rattle.leaves.specs.ScanLaws.{behind, first_bad_none, first_bad_fine, scan_both, scan_class}
 use Rattle.leaves.specs.Finite.{Finite}
-use Rattle.leaves.specs.declared.Bad.{Bad}
-use Rattle.leaves.specs.declared.Bad.TheVariants.{At, Nowhere}
 use Rattle.answers.specs.Answers.{done, emptied, marked, unless_bad, least, decomposition_length}
 use Rattle.answers.proofs.OutcomeLaws.{present_is}
 use Rattle.answers.specs.Checks.{tolerance_good, lengths, fitting}
@@ -30,9 +30,9 @@ looked_ends : (x : Vec) → Ends (looked x).0
 unfolding looked
 looked_ends x = go (first_bad x) refl
   where
-    go : (b : Bad) → first_bad x ≡ b → Ends (cond (is_bad b) (emptied (marked 2 0 b) x) (done 0, x)).0
-    go (At i c) e = inr (i, c, scan_class (at x) (length x) i c e, refl)
-    go Nowhere e = inl refl
+    go : (b : Option Bad) → first_bad x ≡ b → Ends (cond (is_some b) (emptied (marked 2 0 b) x) (done 0, x)).0
+    go (Some bad) e = inr (bad.index, bad.class, scan_class (at x) (length x) bad.index bad.class e, refl)
+    go None e = inl refl
 
 -- what an svd that is done came back with, x, handed on with the same sizes and flags that are set
 module _ (m n u vt has_u has_vt limit : ℕ) (matrix work result : Vec) (x : Outcome) (p : Promised m n u vt limit matrix work result x) (z : x.0.answer ≡ 0) (want_u : u ≡ 0 → ⊥) (want_vt : vt ≡ 0 → ⊥) (flag_u : has_u ≡ 0 → ⊥) (flag_vt : has_vt ≡ 0 → ⊥) where
@@ -49,13 +49,13 @@ module _ (m n u vt has_u has_vt limit : ℕ) (matrix work result : Vec) (x : Out
       ∙ svd_long m n u vt limit matrix work result done0
       ∙ rw (present_is u (m * least m n) want_u, present_is vt (least m n * n) want_vt, present_is has_u (m * least m n) flag_u, present_is has_vt (least m n * n) flag_vt)
 
-  clean : first_bad x.2 ≡ Nowhere
+  clean : first_bad x.2 ≡ None
   clean = first_bad_fine x.2 (subst (λ (o : Outcome). Finite o.2) (sym p)
       (λ k l. svd_finite_out m n u vt limit matrix work result done0 k (subst (λ (j : ℕ). k < j) (svd_long m n u vt limit matrix work result done0) l)))
 
   -- with a right side behind it, what is found is found there
   seen : (b : Vec) → first_bad (x.2 ++ b) ≡ behind (length x.2) (first_bad b)
-  seen b = scan_both x.2 b ∙ ap (λ (f : Bad). or_else f (behind (length x.2) (first_bad b))) clean
+  seen b = scan_both x.2 b ∙ ap (λ (f : Option Bad). option_or f (behind (length x.2) (first_bad b))) clean
 
   -- the checks come to the tolerance and the lengths
   inverse_last : (tol : Float) (answer : Vec) → inverse_checks m n has_u has_vt tol (length x.2) (length answer) ≡ fitting tol (length x.2) (decomposition_length m n has_u has_vt) (length answer) (n * m)
@@ -89,10 +89,10 @@ module _ (m n u vt has_u has_vt limit : ℕ) (matrix work result : Vec) (x : Out
     | yes e ↦ go e (tolerance_good tol) refl
   ]
     where
-      scanned : length b ≡ m → tolerance_good tol ≡ true → (bad : Bad) → first_bad b ≡ bad
+      scanned : length b ≡ m → tolerance_good tol ≡ true → (bad : Option Bad) → first_bad b ≡ bad
           → Says m (length x.2) tol b (unless_bad (behind (length x.2) bad) answer (looked (solution m n tol x.2 b))).0
-      scanned e g (At i c) q = not_finite e g i c q refl
-      scanned e g Nowhere q = ends e g (first_bad_none b q) (looked_ends (solution m n tol x.2 b))
+      scanned e g (Some bad) q = not_finite e g bad.index bad.class q refl
+      scanned e g None q = ends e g (first_bad_none b q) (looked_ends (solution m n tol x.2 b))
 
       go : length b ≡ m → (g : Bool) → tolerance_good tol ≡ g → Says m (length x.2) tol b (solve m n has_u has_vt tol x.2 b answer).0
       go e false g = tolerance_bad e g (rw (solve_last tol b answer e, fitting_11 tol (length x.2) (decomposition_length m n has_u has_vt) (length answer) n g))

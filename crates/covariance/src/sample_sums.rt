@@ -49,8 +49,8 @@ fn pairs(a: &[i16], b: &[i16], from: usize, to: usize, s: u64) -> u64
     let mut lower = 0u32;
     for k in from..to {
         let q = lifted(a, b, k * 2) + lifted(a, b, k * 2 + 1);
-        upper = upper + q / 256;
-        lower = lower + q % 256;
+        upper += q / 256;
+        lower += q % 256;
     }
     s + (upper as u64 * 256 + lower as u64)
 }

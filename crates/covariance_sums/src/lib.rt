@@ -2,23 +2,22 @@
 #![tactic(auto)]
 
 ghost use Rattle.std.specs.Prelude.{◌≡◌, ◌*◌, ◌≤◌, length};
+ghost use Rattle.answers.specs.Refusals.{verdict};
 ghost use Rattle.covariance_sums.specs.Sums.{sum_checks, sums_of, sums};
 
 use answers::checks::lengths;
+use answers::refusal::Refusal;
 use answers::{Answer, done};
+use covariance::matrix_entries::band;
 use covariance::sample_sums::total;
 use covariance::sizes;
 use covariance::whole_numbers::float_of;
-use grid::put1;
 
-fn checks(n: usize, count: usize, samples: usize, out: usize) -> Answer
-    ensures { result ≡ sum_checks n count samples out }
+fn checks(n: usize, count: usize, samples: usize, out: usize) -> Result<(), Refusal>
+    ensures { verdict result ≡ sum_checks n count samples out }
 {
-    let check = sizes(n, count);
-    if check.answer != 0 {
-        return check;
-    }
-    lengths(samples, n * count, out, n, 0, 0)
+    sizes(n, count)?;
+    lengths(&[(samples, n * count), (out, n)])
 }
 
 fn put_sums(n: usize, count: usize, samples: &[i16], out: &mut [f64])
@@ -26,18 +25,18 @@ fn put_sums(n: usize, count: usize, samples: &[i16], out: &mut [f64])
     ensures { out.new ≡ sums_of n count samples.now }
 {
     for j in 0..n {
-        let a = &samples[j * count..j * count + count];
-        put1(out, j, float_of(total(count, a)));
+        out[j] = float_of(total(count, band(samples, n, count, j)));
     }
 }
 
 pub fn sums(n: usize, count: usize, samples: &[i16], out: &mut [f64]) -> Answer
     ensures { (result, out.new) ≡ sums n count samples.now out.old }
 {
-    let check = checks(n, count, samples.len(), out.len());
-    if check.answer != 0 {
-        return check;
+    match checks(n, count, samples.len(), out.len()) {
+        Ok(()) => {
+            put_sums(n, count, samples, out);
+            done(0)
+        }
+        Err(r) => r.into(),
     }
-    put_sums(n, count, samples, out);
-    done(0)
 }

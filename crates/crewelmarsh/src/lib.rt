@@ -313,7 +313,11 @@ pub fn crewelmarsh_store_drop_abi5(
 pub fn crewelmarsh_tally_add_abi5(tally: &mut Tally, answer: usize, passes: usize) -> usize
     ensures { record { refusal = result; tally = tally.new } ≡ outcome tally.old answer passes }
 {
-    let r = tally::added(*tally, answer, passes);
-    *tally = r.tally;
-    r.refusal
+    match tally::added(*tally, answer, passes) {
+        Ok(next) => {
+            *tally = next;
+            0
+        }
+        Err(refusal) => usize::from(refusal),
+    }
 }

@@ -1,14 +1,13 @@
 -- What is lent to a run in parts, and what is put together from them afterwards. Laws only.
 -- `readied`, `setting`, `laid_out`, `turned_out` and `set_out` are what functions of the code do on the way; no public promise cites them.
-use Rattle.std.specs.Prelude.{◌≡◌, ◌++◌, ℕ, ◌+◌, ◌-◌, ◌*◌, ◌≤◌, length, take, drop}
+use Rattle.leaves.specs.declared.Bad.{Bad}
+use Rattle.std.specs.Prelude.{◌≡◌, ◌++◌, ℕ, ◌+◌, ◌-◌, ◌*◌, ◌≤◌, length, take, drop, Option, is_some}
 use Rattle.std.proofs.Math.Path.{ap}
 use Rattle.std.proofs.Common.{◌∙◌, arith, length-drop, length-take-le}
 use Rattle.std.proofs.Math.Bool.{cond}
 use borrow.Rule.Slice.PartMut.{mid_of, put_mid, same_len_mid}
 use Rattle.std.proofs.lemmas.List.{length-replicate}
 use Rattle.grid.specs.Real.{Vec, zero64, zeros}
-use Rattle.leaves.specs.Scan.{is_bad}
-use Rattle.leaves.specs.declared.Bad.{Bad}
 use Rattle.answers.specs.declared.Answer.{Answer}
 use Rattle.eigen_tql2_pass.specs.declared.Run.{Run}
 use Rattle.eigen_tql2.specs.LStartEnd.{State}
@@ -20,27 +19,21 @@ use Rattle.eigen_symmetric_eigen.specs.AfterTred2.{mark0}
 use Rattle.eigen_symmetric_eigen.specs.ResultLaws.{laid}
 use Rattle.eigen_symmetric_eigen.specs.PartsLaws.{outward, behind, behind_put, put_together}
 use Rattle.eigen_tql2_step.specs.Advance.{step}
-use Rattle.eigen_steps.specs.declared.arrays.Stand.{Stand}
 use Rattle.eigen_steps.specs.Arrays.{state_of, closed_up}
-
--- ---- how a run stands, and what the last call gave
-
-abbrev pub stood : Run → Answer → Stand
-stood r x = record { run = r; answer = x }
 
 -- ---- where a run begins, and how it comes to stand in the arrays
 
 -- after tred2: what mark 0 saw, and e moved up where that is nothing; of d and e as they are lent
-unfoldable pub readied : ℕ → Vec → Vec × Vec → Bad × Vec × Vec × Vec
+unfoldable pub readied : ℕ → Vec → Vec × Vec → Option Bad × Vec × Vec × Vec
 readied n a (d, e) =
     let (v, d, e) = tred2 n (columns n a, d, e) in
-    cond (is_bad (mark0 n v d e)) (mark0 n v d e, v, d, e) (mark0 n v d e, v, d, moved_up n e)
+    cond (is_some (mark0 n v d e)) (mark0 n v d e, v, d, e) (mark0 n v d e, v, d, moved_up n e)
 
 -- made ready, with work and result
-unfoldable pub setting : ℕ → Vec → Bad × Vec × Vec
+unfoldable pub setting : ℕ → Vec → Option Bad × Vec × Vec
 setting n a =
     let (b, v, d, e) = readied n a (zeros n, zeros n) in
-    cond (is_bad b) (b, zeros n, zeros (n + n * n)) (b, e, d ++ v)
+    cond (is_some b) (b, zeros n, zeros (n + n * n)) (b, e, d ++ v)
 
 -- the run, work and result
 abbrev pub laid_out : State → Run × Vec × Vec
@@ -53,8 +46,8 @@ unfoldable pub turned_out : ℕ → State → Answer × Vec × Vec × Vec
 turned_out n x = outward n (ql_finished n x)
 
 -- work and result, whose back holds v, after a start with d: where mark 0 saw something all is filled
-unfoldable pub set_out : Bad → Vec → Vec → Vec → Bad × Vec × Vec
-set_out b d work result = cond (is_bad b) (b, zeros (length work), zeros (length result)) (b, work, d ++ drop (length d) result)
+unfoldable pub set_out : Option Bad → Vec → Vec → Vec → Option Bad × Vec × Vec
+set_out b d work result = cond (is_some b) (b, zeros (length work), zeros (length result)) (b, work, d ++ drop (length d) result)
 
 -- ---- the parts: D is the room for d, R the result, W work
 
@@ -83,13 +76,13 @@ module _ (n : ℕ) (R W D v d : Vec) (room : length R ≡ n + n * n) (lv : lengt
   together = ap (◌++◌ d) (ap (λ (k : ℕ). drop k (put_mid n (length R - n) R v)) ld ∙ back)
 
   -- a start
-  pub setting_whole : (a e : Vec) (b : Bad) (q : Bad × Vec × Vec) → D ≡ zeros n → W ≡ zeros n → length e ≡ n
-      → ◌≡◌ {A = Bad × Vec × Vec × Vec} (b, v, d, e) (readied n a (D, W))
+  pub setting_whole : (a e : Vec) (b : Option Bad) (q : Option Bad × Vec × Vec) → D ≡ zeros n → W ≡ zeros n → length e ≡ n
+      → ◌≡◌ {A = Option Bad × Vec × Vec × Vec} (b, v, d, e) (readied n a (D, W))
       → q ≡ set_out b d e (put_mid n (length R - n) R v) → q ≡ setting n a
   unfolding setting set_out
   setting_whole a e b q cd cw le s g =
-      let f : Bad × Vec × Vec × Vec → Bad × Vec × Vec = λ y. cond (is_bad y.0) (y.0, zeros n, zeros (n + n * n)) (y.0, y.3, y.2 ++ y.1) in
-      let p : set_out b d e (put_mid n (length R - n) R v) ≡ f (b, v, d, e) = λ i. cond (is_bad b) (b, zeros (le i), zeros (whole_long i)) (b, e, together i) in
+      let f : Option Bad × Vec × Vec × Vec → Option Bad × Vec × Vec = λ y. cond (is_some y.0) (y.0, zeros n, zeros (n + n * n)) (y.0, y.3, y.2 ++ y.1) in
+      let p : set_out b d e (put_mid n (length R - n) R v) ≡ f (b, v, d, e) = λ i. cond (is_some b) (b, zeros (le i), zeros (whole_long i)) (b, e, together i) in
       g ∙ p ∙ ap f (s ∙ (λ i. readied n a (cd i, cw i)))
 
   -- a step

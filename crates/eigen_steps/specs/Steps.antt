@@ -1,7 +1,7 @@
 -- What a start, a step and a finish give, for every record and all arrays: (the next record, work afterwards, result afterwards). Definitions only.
-use Rattle.std.specs.Prelude.{Bool, cond, not, ◌++◌, ℕ, ◌+◌, ◌*◌, ltb, eqb, length}
+use Rattle.std.specs.Prelude.{Bool, cond, not, ◌++◌, ℕ, ◌+◌, ◌*◌, ltb, eqb, length, is_some}
 use Rattle.grid.specs.Real.{Vec, zeros}
-use Rattle.leaves.specs.Scan.{is_bad, first_bad_lower}
+use Rattle.leaves.specs.Scan.{first_bad_lower}
 use Rattle.answers.specs.Answers.{done, refused, passed, refusal7, marked}
 use Rattle.answers.specs.declared.Answer.{Answer}
 use Rattle.answers.specs.Checks.{limit_good, fitting_edition}
@@ -49,7 +49,7 @@ unfoldable pub begun : ℕ → ℕ → ℕ → Vec → Outcome
 begun n limit edition a =
     let (v, d, e) = tred2 n (columns n a, zeros n, zeros n) in
     let b = mark0 n v d e in
-    cond (is_bad b) (ends_with n limit edition (cleared n (marked 0 0 b))) (recorded n limit edition fresh (done 0), moved_up n e, d ++ v)
+    cond (is_some b) (ends_with n limit edition (cleared n (marked 0 0 b))) (recorded n limit edition fresh (done 0), moved_up n e, d ++ v)
 
 -- sizes, limit, edition and lengths are as they should be: refusal 7, n = 0, or the run begins
 unfoldable pub start_entered : ℕ → ℕ → ℕ → Vec → Outcome

@@ -14,47 +14,34 @@ use eigen_symmetric_eigen::result::{give, put_first};
 use eigen_tql2::finish::finish;
 use eigen_tql2_pass::Run;
 use eigen_tql2_step::advance;
-use grid::{LARGEST, copy, fill};
-use leaves::{Bad, is_bad};
-
-// How a run stands, and what the last call gave.
-#[derive(Clone, Copy)]
-pub struct Stand {
-    pub run: Run,
-    pub answer: Answer,
-}
+use grid::{LARGEST, fill};
+use leaves::Bad;
 
 // ---- a start
 
 // What is lent after a start with d in an array of its own: where mark 0 saw something all is filled.
-fn set_out(b: Bad, d: &[f64], work: &mut [f64], res: &mut [f64]) -> Bad
+fn set_out(found: Option<Bad>, d: &[f64], work: &mut [f64], res: &mut [f64])
     requires { length d.now ≤ length res.old }
-    ensures { (result, work.new, res.new) ≡ set_out b d.now work.old res.old }
+    ensures { (found, work.new, res.new) ≡ set_out found d.now work.old res.old }
 {
-    if is_bad(b) {
+    if found.is_none() {
+        put_first(d, res);
+    } else {
         fill(work);
         fill(res);
-        return b;
     }
-    put_first(d, res);
-    b
 }
 
-// The start with e in work, v in the part of the result behind d, and room for d.
-fn begin_in(n: usize, a: &[f64], d: &mut [f64], work: &mut [f64], res: &mut [f64]) -> Bad
-    requires { (0 < n) × (n ≤ 256) × (length a.now ≡ n * n) × (d.old ≡ zeros n) × (work.old ≡ zeros n) × (res.old ≡ zeros (n + n * n)) }
-    ensures { (result, work.new, res.new) ≡ setting n a.now }
-{
-    let b = prepare(n, a, &mut res[n..], d, work);
-    set_out(b, d, work, res)
-}
-
-pub fn begin_run(n: usize, a: &[f64], work: &mut [f64], res: &mut [f64]) -> Bad
+// The start with e in work, and v in the part of the result behind d.
+pub fn begin_run(n: usize, a: &[f64], work: &mut [f64], res: &mut [f64]) -> Option<Bad>
     requires { (0 < n) × (n ≤ 256) × (length a.now ≡ n * n) × (work.old ≡ zeros n) × (res.old ≡ zeros (n + n * n)) }
     ensures { (result, work.new, res.new) ≡ setting n a.now }
 {
-    let mut d = [0.0f64; LARGEST];
-    begin_in(n, a, &mut d[..n], work, res)
+    let mut room = [0.0f64; LARGEST];
+    let d = &mut room[..n];
+    let found = prepare(n, a, &mut res[n..], d, work);
+    set_out(found, d, work, res);
+    found
 }
 
 // ---- the end of a run
@@ -72,45 +59,21 @@ fn turn_out(n: usize, r: Run, v: &mut [f64], d: &mut [f64]) -> Answer
     x
 }
 
-// The end of a run whose checks are past, with room for d.
-fn close_in(n: usize, r: Run, d: &mut [f64], work: &mut [f64], res: &mut [f64]) -> Answer
-    requires { (0 < n) × (length d.old ≡ n) × (length work.old ≡ n) × (length res.old ≡ n + n * n) }
-    ensures { (result, work.new, res.new) ≡ closed_up n r work.old res.old }
-{
-    copy(&res[..n], d);
-    let x = turn_out(n, r, &mut res[n..], d);
-    give(x, d, work, res)
-}
-
+// The end of a run whose checks are past.
 pub fn close_up(n: usize, r: Run, work: &mut [f64], res: &mut [f64]) -> Answer
     requires { (0 < n) × (n ≤ 256) × (length work.old ≡ n) × (length res.old ≡ n + n * n) }
     ensures { (result, work.new, res.new) ≡ closed_up n r work.old res.old }
 {
-    let mut d = [0.0f64; LARGEST];
-    close_in(n, r, &mut d[..n], work, res)
+    let mut room = [0.0f64; LARGEST];
+    let d = &mut room[..n];
+    d.copy_from_slice(&res[..n]);
+    let x = turn_out(n, r, &mut res[n..], d);
+    give(x, d, work, res)
 }
 
 // ---- a step
 
-// A step of `eigen_tql2_step` where d stands in the result, with room for d.
-fn step_in(
-    n: usize,
-    limit: usize,
-    edition: usize,
-    r: Run,
-    d: &mut [f64],
-    work: &mut [f64],
-    res: &mut [f64],
-) -> Run
-    requires { (n ≤ 256) × (limit ≤ 60) × Open n limit r × (length d.old ≡ n) × (length work.old ≡ n) × (length res.old ≡ n + n * n) }
-    ensures { (result, work.new, res.new) ≡ laid_out (step n limit edition (state_of n r work.old res.old)) }
-{
-    copy(&res[..n], d);
-    let t = advance(n, limit, edition, r, &mut res[n..], d, work);
-    put_first(d, res);
-    t
-}
-
+// A step of `eigen_tql2_step` where d stands in the result.
 pub fn move_on(
     n: usize,
     limit: usize,
@@ -122,6 +85,10 @@ pub fn move_on(
     requires { (n ≤ 256) × (limit ≤ 60) × Open n limit r × (length work.old ≡ n) × (length res.old ≡ n + n * n) }
     ensures { (result, work.new, res.new) ≡ laid_out (step n limit edition (state_of n r work.old res.old)) }
 {
-    let mut d = [0.0f64; LARGEST];
-    step_in(n, limit, edition, r, &mut d[..n], work, res)
+    let mut room = [0.0f64; LARGEST];
+    let d = &mut room[..n];
+    d.copy_from_slice(&res[..n]);
+    let t = advance(n, limit, edition, r, &mut res[n..], d, work);
+    put_first(d, res);
+    t
 }

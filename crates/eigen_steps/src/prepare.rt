@@ -7,19 +7,18 @@ use eigen_symmetric_eigen::after_tred2::mark0;
 use eigen_symmetric_eigen::layout::columns;
 use eigen_tql2::move_up;
 use eigen_tred2::tred2;
-use leaves::{Bad, is_bad};
+use leaves::Bad;
 
 // `tred2` and mark 0; e is moved up where that saw nothing.
-pub fn prepare(n: usize, a: &[f64], v: &mut [f64], d: &mut [f64], e: &mut [f64]) -> Bad
+pub fn prepare(n: usize, a: &[f64], v: &mut [f64], d: &mut [f64], e: &mut [f64]) -> Option<Bad>
     requires { (0 < n) × (n ≤ 256) × (length a.now ≡ n * n) × Sized n v.old d.old e.old }
     ensures { (result, v.new, d.new, e.new) ≡ readied n a.now (d.old, e.old) }
 {
     columns(n, a, v);
     tred2(n, v, d, e);
-    let b = mark0(n, v, d, e);
-    if is_bad(b) {
-        return b;
+    let found = mark0(n, v, d, e);
+    if found.is_none() {
+        move_up(n, e);
     }
-    move_up(n, e);
-    b
+    found
 }

@@ -7,6 +7,7 @@ pub mod RowsLaws
 pub mod ResultLaws
 -- AfterTred2: mark 0, and the run after tred2.
 pub mod AfterTred2
--- SymmetricEigen: the definition of symmetric_eigen, what a call gives, for every input. PartsLaws: laws.
+-- SymmetricEigen: the definition of symmetric_eigen, what a call gives, for every input. PartsLaws, ChecksLaws: laws.
 pub mod SymmetricEigen
 pub mod PartsLaws
+pub mod ChecksLaws

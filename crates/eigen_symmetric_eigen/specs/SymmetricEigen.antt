@@ -35,6 +35,13 @@ eigen_entered n limit edition a =
     (cond (eqb n 0) (cleared n (done 0)) (given n (decomposed n limit edition a (zeros n, zeros n))))
     (cleared n x)
 
+-- what a call is refused for before its run: 1, 2, 12 and 6, of the lengths of its arrays
+unfoldable pub checks : ℕ → ℕ → ℕ → ℕ → ℕ → ℕ → Answer
+checks n limit edition matrix work result =
+    cond (ltb 256 n)
+    (refused 1 0)
+    (cond (not (limit_good limit)) (refused 2 0) (fitting_edition edition matrix (n * n) work n result (n + n * n)))
+
 -- 1, 2, 12 and 6 leave work and result as they were
 unfoldable pub eigen : ℕ → ℕ → ℕ → Vec → Vec → Vec → Answer × Vec × Vec
 eigen n limit edition a work result =

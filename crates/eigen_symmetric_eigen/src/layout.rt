@@ -4,7 +4,7 @@ ghost use Rattle.leaves.specs.Scan.{by_rows};
 ghost use Rattle.eigen_symmetric_eigen.specs.Layout.{columns};
 ghost use Rattle.eigen_symmetric_eigen.specs.LayoutSteps.{copy_row, transpose_row};
 
-use grid::{at, entry, put};
+use grid::{entry, put};
 
 // Row i of the matrix a into row i of v.
 fn copy_row(n: usize, i: usize, a: &[f64], v: &mut [f64])
@@ -32,10 +32,7 @@ fn transpose_row(n: usize, i: usize, v: &mut [f64])
     ensures { v.new ≡ transpose_row n i v.old }
 {
     for j in 0..i {
-        let x = at(v, n, n, i, j);
-        let y = at(v, n, n, j, i);
-        put(v, n, n, i, j, y);
-        put(v, n, n, j, i, x);
+        v.swap(j * n + i, i * n + j);
     }
 }
 

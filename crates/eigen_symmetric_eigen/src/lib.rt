@@ -8,38 +8,22 @@ pub mod after_tred2; // The run of `symmetric_eigen` after `tred2`: mark 0, then
 ghost use Rattle.std.specs.Prelude.{◌≡◌, ◌+◌, ◌*◌, ◌<◌, ◌≤◌, length};
 ghost use Rattle.grid.specs.Real.{zeros};
 ghost use Rattle.grid.specs.CellLaws.{Sized};
-ghost use Rattle.eigen_symmetric_eigen.specs.SymmetricEigen.{decomposed, given, eigen_entered, eigen};
+ghost use Rattle.answers.specs.Refusals.{verdict};
+ghost use Rattle.eigen_symmetric_eigen.specs.SymmetricEigen.{decomposed, given, eigen_entered, checks, eigen};
 ghost use Rattle.eigen_symmetric_eigen.specs.PartsLaws.{outward};
 
 use crate::after_tred2::after_tred;
 use crate::layout::{columns, rows};
 use crate::result::give;
 use answers::checks::{fitting_edition, limit_good};
-use answers::{Answer, done, refusal7, refused};
+use answers::refusal::Refusal;
+use answers::{Answer, done};
 use eigen_tred2::tred2;
 use grid::{LARGEST, fill};
 use leaves::scan::first_bad_lower;
 
-// The run.
-fn decompose(
-    n: usize,
-    limit: usize,
-    edition: usize,
-    a: &[f64],
-    v: &mut [f64],
-    d: &mut [f64],
-    e: &mut [f64],
-) -> Answer
-    requires { (0 < n) × (n ≤ 256) × (limit ≤ 60) × (length a.now ≡ n * n) × Sized n v.old d.old e.old }
-    ensures { (result, v.new, d.new, e.new) ≡ decomposed n limit edition a.now (d.old, e.old) }
-{
-    columns(n, a, v);
-    tred2(n, v, d, e);
-    after_tred(n, limit, edition, v, d, e)
-}
-
 // The run, with the vectors row by row where it is done.
-fn decompose_rows(
+fn decompose(
     n: usize,
     limit: usize,
     edition: usize,
@@ -51,7 +35,9 @@ fn decompose_rows(
     requires { (0 < n) × (n ≤ 256) × (limit ≤ 60) × (length a.now ≡ n * n) × Sized n v.old d.old e.old }
     ensures { (result, v.new, d.new, e.new) ≡ outward n (decomposed n limit edition a.now (d.old, e.old)) }
 {
-    let r = decompose(n, limit, edition, a, v, d, e);
+    columns(n, a, v);
+    tred2(n, v, d, e);
+    let r = after_tred(n, limit, edition, v, d, e);
     if r.answer != 0 {
         return r;
     }
@@ -72,7 +58,7 @@ fn run(
     ensures { (result, work.new, res.new) ≡ given n (decomposed n limit edition a.now (zeros n, zeros n)) }
 {
     let mut d = [0.0f64; LARGEST];
-    let r = decompose_rows(n, limit, edition, a, &mut res[n..], &mut d[..n], work);
+    let r = decompose(n, limit, edition, a, &mut res[n..], &mut d[..n], work);
     give(r, &d[..n], work, res)
 }
 
@@ -90,14 +76,31 @@ fn enter(
 {
     fill(work);
     fill(res);
-    let x = refusal7(first_bad_lower(n, matrix));
-    if x.answer != 0 {
-        return x;
+    match first_bad_lower(n, matrix) {
+        Some(bad) => Refusal::NotFinite(bad.index).into(),
+        None if n == 0 => done(0),
+        None => run(n, limit, edition, matrix, work, res),
     }
-    if n == 0 {
-        return done(0);
+}
+
+// What a call is refused for before its run: its dimension, its limit, its edition, then the lengths of its arrays.
+pub fn checks(
+    n: usize,
+    limit: usize,
+    edition: usize,
+    matrix: usize,
+    work: usize,
+    res: usize,
+) -> Result<(), Refusal>
+    ensures { verdict result ≡ checks n limit edition matrix work res }
+{
+    if n > LARGEST {
+        return Err(Refusal::Dimension);
     }
-    run(n, limit, edition, matrix, work, res)
+    if !limit_good(limit) {
+        return Err(Refusal::Limit);
+    }
+    fitting_edition(edition, matrix, n * n, work, n, res, n + n * n)
 }
 
 pub fn symmetric_eigen(
@@ -110,23 +113,8 @@ pub fn symmetric_eigen(
 ) -> Answer
     ensures { (result, work.new, res.new) ≡ eigen n limit edition matrix.now work.old res.old }
 {
-    if n > LARGEST {
-        return refused(1, 0);
+    match checks(n, limit, edition, matrix.len(), work.len(), res.len()) {
+        Ok(()) => enter(n, limit, edition, matrix, work, res),
+        Err(r) => r.into(),
     }
-    if !limit_good(limit) {
-        return refused(2, 0);
-    }
-    let x = fitting_edition(
-        edition,
-        matrix.len(),
-        n * n,
-        work.len(),
-        n,
-        res.len(),
-        n + n * n,
-    );
-    if x.answer != 0 {
-        return x;
-    }
-    enter(n, limit, edition, matrix, work, res)
 }

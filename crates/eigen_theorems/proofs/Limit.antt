@@ -1,8 +1,8 @@
 -- An outcome of `symmetric_eigen` that is not refusal 9 is the outcome at every higher limit (`eigen_limit`). Laws only.
-use Rattle.std.specs.Prelude.{refl, not, ℕ, ◌+◌, ◌*◌, ◌≤◌, ltb, eqb, length}
+use Rattle.std.specs.Prelude.{refl, not, ℕ, ◌+◌, ◌*◌, ◌≤◌, ltb, eqb, length, is_some}
 use Rattle.std.proofs.Common.{sym, ap, ◌∙◌, arith}
 use Rattle.grid.specs.Real.{Vec}
-use Rattle.leaves.specs.Scan.{is_bad, first_bad_lower}
+use Rattle.leaves.specs.Scan.{first_bad_lower}
 use Rattle.answers.specs.Answers.{passed, refusal7}
 use Rattle.answers.proofs.OutcomeLaws.{Settled, always, by_test}
 use Rattle.answers.specs.declared.Answer.{Answer}
@@ -22,7 +22,7 @@ answer4 x = x.0.answer
 
 tred_limit : (n edition k m : ℕ) (x : Vec × Vec × Vec) → 1 ≤ k → k ≤ m → Settled answer4 (after_tred n k edition x) (after_tred n m edition x)
 unfolding after_tred
-tred_limit n edition k m x z l = by_test answer4 (is_bad (mark0 n x.0 x.1 x.2)) _ refl (always answer4) (record { same = tql2_limit n edition k m x z l })
+tred_limit n edition k m x z l = by_test answer4 (is_some (mark0 n x.0 x.1 x.2)) _ refl (always answer4) (record { same = tql2_limit n edition k m x z l })
 
 given_limit : (n : ℕ) (x y : Answer × Vec × Vec × Vec) → Settled answer4 x y → Settled answer3 (given n x) (given n y)
 given_limit n x y s = record { same = λ h. ap (given n) (s.same (λ e. h (ap (λ (t : Answer). t.answer) (given_answer n x) ∙ e))) }

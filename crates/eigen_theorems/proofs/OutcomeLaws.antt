@@ -1,16 +1,15 @@
 -- Answer 0 with count c, 9 and each 8 and 10 with its index come exactly where the loops, the marks and the limit say: `done_exactly`, `limit_exactly`, `mark0_exactly`, `mark1_exactly`, `mark2_exactly`. Laws only.
 -- So a definition that refused more than the scope allows could not have them.
-use Rattle.std.specs.Prelude.{◌≡◌, refl, ◌↔◌, Bool, true, false, cond, [], ◌++◌, ℕ, ◌+◌, ◌*◌, ◌<◌, eqb, length}
+use Rattle.leaves.specs.declared.Bad.{Bad}
+use Rattle.std.specs.Prelude.{◌≡◌, refl, ◌↔◌, Bool, true, false, cond, [], ◌++◌, ℕ, ◌+◌, ◌*◌, ◌<◌, eqb, length, Option, Some, None, is_some}
 use Rattle.std.proofs.Math.Path.{sym, ap, subst}
 use Rattle.std.proofs.Common.{◌∙◌, ⊎_elim, arith, ne_eqb, eqb-true}
 use Rattle.std.proofs.lemmas.Bool.{eqb-false}
 use Rattle.std.proofs.lemmas.List.{length-replicate}
 use Rattle.grid.specs.Real.{Vec, at, zero64, zeros}
-use Rattle.leaves.specs.Scan.{by_rows, is_bad}
+use Rattle.leaves.specs.Scan.{by_rows, bad_at}
 use Rattle.leaves.specs.ScanLaws.{first_bad_none, scan_first}
 use Rattle.leaves.specs.FiniteLaws.{both_finite, finite_both, by_rows_at, by_rows_long, cells_finite, finite_rows, none_lower}
-use Rattle.leaves.specs.declared.Bad.{Bad}
-use Rattle.leaves.specs.declared.Bad.TheVariants.{At, Nowhere}
 use Rattle.answers.specs.Answers.{answered, done, passed, marked}
 use Rattle.answers.specs.Index.{Class}
 use Rattle.answers.specs.declared.Answer.{Answer}
@@ -26,7 +25,7 @@ use Rattle.eigen_theorems.proofs.Tql2Marks.{run_gives}
 use Rattle.eigen_symmetric_eigen.specs.AfterTred2.{mark0, after_tred}
 use Rattle.eigen_symmetric_eigen.specs.SymmetricEigen.{decomposed, cleared, given, eigen_entered, eigen}
 use Rattle.eigen_symmetric_eigen.specs.PartsLaws.{checks_pass}
-use Rattle.eigen_theorems.specs.Outcome.{Outcome, Fit, Taken, reduced, list0, Reduced, Reached, Done, empty, worked, Halted, Broken0, Broken2, Says, nothing, at_mark0, runs, finished_with, Some}
+use Rattle.eigen_theorems.specs.Outcome.{Outcome, Fit, Taken, reduced, list0, Reduced, Reached, Done, empty, worked, Halted, Broken0, Broken2, Says, nothing, at_mark0, runs, finished_with, Some as Made}
 use Rattle.eigen_theorems.specs.Document as Doc
 use Rattle.eigen_symmetric_eigen.specs.LayoutLaws.{same_entries, columns_long}
 
@@ -46,7 +45,7 @@ diagonal n a = tred2_diagonal n _ ∙ length-replicate n zero64
 pub beside : (n : ℕ) (a : Vec) → length (reduced n a).2 ≡ n
 beside n a = tred2_beside n _ ∙ length-replicate n zero64
 
-mark0_reduced : (n : ℕ) (a : Vec) → mark0 n (reduced n a).0 (reduced n a).1 (reduced n a).2 ≡ Nowhere → Reduced (reduced n a)
+mark0_reduced : (n : ℕ) (a : Vec) → mark0 n (reduced n a).0 (reduced n a).1 (reduced n a).2 ≡ None → Reduced (reduced n a)
 unfolding mark0
 mark0_reduced n a h =
     let x = reduced n a in
@@ -54,7 +53,7 @@ mark0_reduced n a h =
     let p = finite_both x.1 x.2 o.0 in
     record { vectors = cells_finite n n x.0 (square n a) o.1; values = p.0; beside = p.1 }
 
-mark0_first : (n : ℕ) (a : Vec) (b i : ℕ) → mark0 n (reduced n a).0 (reduced n a).1 (reduced n a).2 ≡ At i b → FirstIn (list0 n (reduced n a)) b i
+mark0_first : (n : ℕ) (a : Vec) (b i : ℕ) → mark0 n (reduced n a).0 (reduced n a).1 (reduced n a).2 ≡ bad_at i b → FirstIn (list0 n (reduced n a)) b i
 unfolding mark0
 mark0_first n a b i h = scan_first (at (list0 n (reduced n a))) (length (list0 n (reduced n a))) i b h
 
@@ -83,8 +82,8 @@ says n limit edition a work result f = subst (Says n limit edition a) (sym (ente
     x : Vec × Vec × Vec
     x = reduced n a
 
-    after : Bad → Answer × Vec × Vec × Vec
-    after b = cond (is_bad b) (marked 0 0 b, x.0, x.1, x.2) (tql2 n limit edition x)
+    after : Option Bad → Answer × Vec × Vec × Vec
+    after b = cond (is_some b) (marked 0 0 b, x.0, x.1, x.2) (tql2 n limit edition x)
 
     body : Outcome
     body = cond (eqb n 0) (cleared n (done 0)) (given n (after (mark0 n x.0 x.1 x.2)))
@@ -99,11 +98,11 @@ says n limit edition a work result f = subst (Says n limit edition a) (sym (ente
     refuses : (b i : ℕ) → FirstIn (list0 n x) b i → given n (answered b 0 i 0, x.0, x.1, x.2) ≡ cleared n (answered b 0 i 0)
     refuses b i s = ap (λ (t : Bool). cond t (answered b 0 i 0, zeros n, x.1 ++ by_rows n x.0) (cleared n (answered b 0 i 0))) (ne_eqb b 0 (λ e. omega (arith, class_above (list0 n x) b i s)))
 
-    then : 0 < n → (b : Bad) → mark0 n x.0 x.1 x.2 ≡ b → Says n limit edition a (given n (after b))
-    then z (At i b) e =
-        let s = mark0_first n a b i e in
-        subst (Says n limit edition a) (sym (refuses b i s)) (at_mark0 (record { some = z; seen = s }))
-    then z Nowhere e = runs z (mark0_reduced n a e) (run_gives n limit edition x z (square n a) (beside n a))
+    then : 0 < n → (b : Option Bad) → mark0 n x.0 x.1 x.2 ≡ b → Says n limit edition a (given n (after b))
+    then z (Some seen) e =
+        let s = mark0_first n a seen.class seen.index e in
+        subst (Says n limit edition a) (sym (refuses seen.class seen.index s)) (at_mark0 (record { some = z; seen = s }))
+    then z None e = runs z (mark0_reduced n a e) (run_gives n limit edition x z (square n a) (beside n a))
 
     go : (b : Bool) → eqb n 0 ≡ b → Says n limit edition a body
     go true e = rw e (nothing (eqb-true n 0 e))
@@ -140,7 +139,7 @@ module _ (n limit edition : ℕ) (a : Vec) where
         vectors_are = by_rows_at n n _ l;
       }
 
-  gives_done : (c : ℕ) (o : Answer × Vec × Vec × Vec) → 0 < n → Reduced (reduced n a) → RunGives n limit edition (reduced n a) o → o.0 ≡ done c → Some n limit edition a c (given n o).2
+  gives_done : (c : ℕ) (o : Answer × Vec × Vec × Vec) → 0 < n → Reduced (reduced n a) → RunGives n limit edition (reduced n a) o → o.0 ≡ done c → Made n limit edition a c (given n o).2
   unfolding given
   gives_done c o z s (well {c = b} {y = y} r w) q =
       record {
@@ -153,7 +152,7 @@ module _ (n limit edition : ℕ) (a : Vec) where
   gives_done c o z s (at_mark1 {l = l} {b = b} {i = i} {z = y} h r t) q = absurd (omega (arith, class_above (list1 y) b i (mark1_sees n limit edition l t), ap (λ (t : Answer). t.answer) q))
   gives_done c o z s (at_limit h r t) q = absurd (omega (arith, ap (λ (t : Answer). t.answer) q))
 
-  pub says_done : (c : ℕ) (o : Outcome) → Says n limit edition a o → o.0 ≡ done c → Some n limit edition a c o.2
+  pub says_done : (c : ℕ) (o : Outcome) → Says n limit edition a o → o.0 ≡ done c → Made n limit edition a c o.2
   says_done c o (nothing z) q =
       record { values = []; vectors = []; exactly = empty z (sym (ap (λ (t : Answer). t.count) q)) refl refl; whole = ap (λ (k : ℕ). zeros (k + k * k)) z }
   says_done c o (at_mark0 {b = b} {i = i} h) q = absurd (omega (arith, class_above (list0 n (reduced n a)) b i h.seen, ap (λ (t : Answer). t.answer) q))

@@ -1,6 +1,7 @@
 -- What a run made by a start and steps keeps between steps (`Open`, `Body`), and what a step comes to (`step_next`): it goes on, with one pass more or behind the last l, or a mark or the limit has ended it. Laws only.
 -- So none of what 13 refuses ever comes about (`in_range_lem`, `is_sound`).
-use Rattle.std.specs.Prelude.{◌≡◌, refl, ◌⊎◌, Bool, true, false, cond, not, ◌&&◌, ◌||◌, ◌++◌, ℕ, ◌+◌, ◌-◌, ◌*◌, ◌≤◌, ◌<◌, ltb, eqb, Float, length, take, drop}
+use Rattle.leaves.specs.declared.Bad.{Bad}
+use Rattle.std.specs.Prelude.{◌≡◌, refl, ◌⊎◌, Bool, true, false, cond, not, ◌&&◌, ◌||◌, ◌++◌, ℕ, ◌+◌, ◌-◌, ◌*◌, ◌≤◌, ◌<◌, ltb, eqb, Float, length, take, drop, Option, Some, None}
 use Rattle.std.proofs.Common.{sym, ap, ◌∙◌, subst, inl, inr, ⊎_elim, arith, ltb-true, ltb-false, lt-ltb, le-leb, eq-eqb, length-set, length-drop, get_or-set_same, get_or-set_other, get_or-take, get_or-drop}
 use Rattle.std.proofs.Math.Decide.{ℕ_discrete}
 use Rattle.std.proofs.lemmas.Bool.{eqb-false}
@@ -15,8 +16,6 @@ use Rattle.leaves.specs.Scan.{first_bad}
 use Rattle.leaves.specs.ScanLaws.{first_bad_none, first_bad_fine, scan_class}
 use Rattle.leaves.specs.Finite.{Finite}
 use Rattle.leaves.specs.FiniteLaws.{finite_both}
-use Rattle.leaves.specs.declared.Bad.{Bad}
-use Rattle.leaves.specs.declared.Bad.TheVariants.{At, Nowhere}
 use Rattle.answers.specs.Checks.{limit_good, edition_good}
 use Rattle.eigen_tql2_pass.specs.Transform.{transformed}
 use Rattle.eigen_tql2_pass.specs.Pass.{tiny, mark1, settled, judged, verdict, pass}
@@ -62,7 +61,7 @@ come_body n x b = record { sized = b.sized; grows = plus_larger x.0.tst1 _ b.gro
 -- ---- one pass
 
 -- what mark 1 says where it sees nothing
-all_finite_lem : (d e : Vec) → mark1 d e ≡ Nowhere → Finite d × Finite e
+all_finite_lem : (d e : Vec) → mark1 d e ≡ None → Finite d × Finite e
 unfolding mark1
 all_finite_lem d e h = finite_both d e (first_bad_none (d ++ e) h)
 
@@ -87,7 +86,7 @@ one_pass n edition x h g b = go (mark1 y.2 y.3) refl (tiny y.3 x.0.tst1 x.0.l) r
     diagonal : length y.2 ≡ n
     diagonal = (body_long n edition x.0.l x.0.m carried).values ∙ b.sized.diagonal
 
-    fine : mark1 y.2 y.3 ≡ Nowhere → Body n (pass n edition x)
+    fine : mark1 y.2 y.3 ≡ None → Body n (pass n edition x)
     fine q =
         let r = transformed_ended n edition x.0.l x.0.m (n - 1) x.1 x.2 x.3 h (omega arith) (omega (arith, b.sized.beside)) in
         let a = all_finite_lem y.2 y.3 q in
@@ -100,15 +99,15 @@ one_pass n edition x h g b = go (mark1 y.2 y.3) refl (tiny y.3 x.0.tst1 x.0.l) r
         }
 
     -- what the pass leaves, by mark 1 and the test
-    why : Bad → Bool → ℕ × ℕ
+    why : Option Bad → Bool → ℕ × ℕ
     why a t = ((judged a (cond t 1 0)).stop, (judged a (cond t 1 0)).index)
 
-    go : (a : Bad) → mark1 y.2 y.3 ≡ a → (t : Bool) → tiny y.3 x.0.tst1 x.0.l ≡ t → Passed n (pass n edition x)
-    go (At k c) q t s =
-        let e : (pass n edition x).0.stop ≡ c = ap (λ (a : Bad). (why a (tiny y.3 x.0.tst1 x.0.l)).0) q in
-        bad (⊎_elim (λ (p : c ≡ 8). inl (e ∙ p)) (λ (p : c ≡ 10). inr (e ∙ p)) (scan_class (at (y.2 ++ y.3)) (length (y.2 ++ y.3)) k c q)) diagonal
-    go Nowhere q true s = here (λ i. (why (q i) (s i)).0) (fine q)
-    go Nowhere q false s = on (λ i. (why (q i) (s i)).0) (λ i. (why (q i) (s i)).1) (fine q)
+    go : (a : Option Bad) → mark1 y.2 y.3 ≡ a → (t : Bool) → tiny y.3 x.0.tst1 x.0.l ≡ t → Passed n (pass n edition x)
+    go (Some found) q t s =
+        let e : (pass n edition x).0.stop ≡ found.class = ap (λ (a : Option Bad). (why a (tiny y.3 x.0.tst1 x.0.l)).0) q in
+        bad (⊎_elim (λ (p : found.class ≡ 8). inl (e ∙ p)) (λ (p : found.class ≡ 10). inr (e ∙ p)) (scan_class (at (y.2 ++ y.3)) (length (y.2 ++ y.3)) found.index found.class q)) diagonal
+    go None q true s = here (λ i. (why (q i) (s i)).0) (fine q)
+    go None q false s = on (λ i. (why (q i) (s i)).0) (λ i. (why (q i) (s i)).1) (fine q)
 
 record Same (x y : Run) : Type 0 where
   l : y.l ≡ x.l
@@ -217,10 +216,10 @@ is_sound n r work result h l b =
     zeroed : eq (at work (n - 1)) zero64 ≡ true
     zeroed = nought_eq (at work (n - 1)) b.last
 
-    front : first_bad (part r.l n result) ≡ Nowhere
+    front : first_bad (part r.l n result) ≡ None
     front = first_bad_fine (part r.l n result) (λ k p.
         let q : k < n - r.l = omega (arith, length_part r.l n result l h) in
         rw (get_or-take (n - r.l) (drop r.l result) k nan q, get_or-drop r.l result k nan, ← get_or-take n result (r.l + k) nan (omega arith)) (b.values (r.l + k) (omega arith) (omega arith)))
 
-    behind : first_bad (drop r.l work) ≡ Nowhere
+    behind : first_bad (drop r.l work) ≡ None
     behind = first_bad_fine (drop r.l work) (λ k p. rw (get_or-drop r.l work k nan) (b.besides (r.l + k) (omega arith) (omega (arith, length-drop r.l work, b.sized.beside))))

@@ -1,6 +1,7 @@
 -- The invariant of a run that a start and steps have made (`Made`): it has ended as the one call does, or what is left of it comes to what the one call gives. Laws only.
 -- A start makes it, a step keeps it, and a finish then gives the one call's outcome.
-use Rattle.std.specs.Prelude.{◌≡◌, ◌⊎◌, Bool, not, ◌&&◌, ◌++◌, ltb, Float, set, take, drop}
+use Rattle.leaves.specs.declared.Bad.{Bad}
+use Rattle.std.specs.Prelude.{◌≡◌, ◌⊎◌, Bool, not, ◌&&◌, ◌++◌, ltb, Float, set, take, drop, Option, Some, None, is_some}
 use Rattle.std.proofs.Math.Path.{refl, sym, ap}
 use Rattle.std.proofs.Common.{◌∙◌, subst, ⊎_elim, true≢false, suc-mul, mul-le-mul_right, arith, length-set, length-append, get_or-set_same, get_or-set_other, take_at, drop_at}
 use Rattle.std.proofs.Math.Bool.{true, false, cond}
@@ -15,11 +16,9 @@ use Rattle.grid.specs.Loop.{upto}
 use Rattle.grid.specs.LoopLaws.{upto_both}
 use Rattle.grid.specs.Real.{Vec, zero64, zeros, at}
 use Rattle.leaves.specs.Leaf.{is_finite}
-use Rattle.leaves.specs.Scan.{is_bad, by_rows, first_bad_lower}
+use Rattle.leaves.specs.Scan.{by_rows, first_bad_lower}
 use Rattle.leaves.specs.ScanLaws.{first_bad_none, scan_class}
 use Rattle.leaves.specs.FiniteLaws.{finite_both}
-use Rattle.leaves.specs.declared.Bad.{Bad}
-use Rattle.leaves.specs.declared.Bad.TheVariants.{At, Nowhere}
 use Rattle.answers.specs.Answers.{answered, done, refused, passed, refusal7, marked}
 use Rattle.answers.specs.declared.Answer.{Answer}
 use Rattle.answers.specs.Checks.{limit_good, edition_good, lengths, fitting_edition}
@@ -342,7 +341,7 @@ module _ (n limit edition : ℕ) (a : Vec) (f : Fit n limit edition) where
   first : Vec × Vec × Vec
   first = (columns n a, zeros n, zeros n)
 
-  begun_body : (x : Vec × Vec × Vec) → x ≡ tred2 n first → mark0 n x.0 x.1 x.2 ≡ Nowhere → Body n (fresh, x.0, x.1, moved_up n x.2)
+  begun_body : (x : Vec × Vec × Vec) → x ≡ tred2 n first → mark0 n x.0 x.1 x.2 ≡ None → Body n (fresh, x.0, x.1, moved_up n x.2)
   unfolding mark0 first
   begun_body x e h =
       let p = (finite_both (x.1 ++ x.2) (by_rows n x.0) (first_bad_none (x.1 ++ x.2 ++ by_rows n x.0) h)).0 in
@@ -373,12 +372,12 @@ module _ (n limit edition : ℕ) (a : Vec) (f : Fit n limit edition) where
       refuses : (k c : ℕ) → eqb c 0 ≡ false → cleared n (answered c 0 k 0) ≡ given n (answered c 0 k 0, x.0, x.1, x.2)
       refuses k c z = unfold given in sym (λ i. cond (z i) (answered c 0 k 0, zeros n, x.1 ++ by_rows n x.0) (cleared n (answered c 0 k 0)))
 
-      go : (m : Bad) → mark0 n x.0 x.1 x.2 ≡ m
-          → Made n limit edition (given n (cond (is_bad m) (marked 0 0 m, x.0, x.1, x.2) (tql2 n limit edition x))) (cond (is_bad m) (ends_with n limit edition (cleared n (marked 0 0 m))) (recorded n limit edition fresh (done 0), moved_up n x.2, x.1 ++ x.0))
-      go (At k c) h =
-          let s : (c ≡ 8) ⊎ (c ≡ 10) = unfold mark0 in scan_class (at (x.1 ++ x.2 ++ by_rows n x.0)) (length (x.1 ++ x.2 ++ by_rows n x.0)) k c h in
-          over refl (refuses k c (⊎_elim (λ (e : c ≡ 8). ap (λ (j : ℕ). eqb j 0) e) (λ (e : c ≡ 10). ap (λ (j : ℕ). eqb j 0) e) s))
-      go Nowhere h =
+      go : (m : Option Bad) → mark0 n x.0 x.1 x.2 ≡ m
+          → Made n limit edition (given n (cond (is_some m) (marked 0 0 m, x.0, x.1, x.2) (tql2 n limit edition x))) (cond (is_some m) (ends_with n limit edition (cleared n (marked 0 0 m))) (recorded n limit edition fresh (done 0), moved_up n x.2, x.1 ++ x.0))
+      go (Some bad) h =
+          let s : (bad.class ≡ 8) ⊎ (bad.class ≡ 10) = unfold mark0 in scan_class (at (x.1 ++ x.2 ++ by_rows n x.0)) (length (x.1 ++ x.2 ++ by_rows n x.0)) bad.index bad.class h in
+          over refl (refuses bad.index bad.class (⊎_elim (λ (e : bad.class ≡ 8). ap (λ (j : ℕ). eqb j 0) e) (λ (e : bad.class ≡ 10). ap (λ (j : ℕ). eqb j 0) e) s))
+      go None h =
           runs s refl f (fresh_open n limit f.some (limit_right limit f.limits).0) (begun_body x (unfold first in refl) h)
           (ap (λ (u : State). given n (ql_finished n u)) (rest_fresh n limit edition s refl refl) ∙ (unfold tql2 run in refl))
 

@@ -1,27 +1,26 @@
 -- How fast a run in steps goes: a start runs no pass, a step one at the most, and exactly one where steps are left behind it; so a run is not over before as many steps as the one call runs passes. Laws only.
-use Rattle.std.specs.Prelude.{◌≡◌, refl, Bool, true, false, cond, not, ◌&&◌, ◌++◌, ltb, eqb, length}
-use Rattle.std.proofs.Common.{sym, ap, ◌∙◌, subst, arith}
+use Rattle.leaves.specs.declared.Bad.{Bad}
+use Rattle.std.specs.Prelude.{◌≡◌, refl, Bool, true, false, cond, not, ◌&&◌, ◌++◌, ltb, eqb, length, Option, Some, None, is_some}
+use Rattle.std.proofs.Common.{ap, ◌∙◌, subst, arith}
 use Prim.Native.Nat.{ℕ, zero, suc, ◌+◌, ◌-◌, ◌*◌, ◌≤◌}
 use Rattle.grid.specs.Real.{Vec, zeros}
-use Rattle.leaves.specs.Scan.{is_bad, first_bad_lower}
-use Rattle.leaves.specs.declared.Bad.{Bad}
-use Rattle.leaves.specs.declared.Bad.TheVariants.{At, Nowhere}
-use Rattle.answers.specs.Answers.{answered, done, refused, passed, refusal7, marked}
+use Rattle.leaves.specs.Scan.{first_bad_lower}
+use Rattle.answers.specs.Answers.{passed, refusal7, marked}
 use Rattle.answers.specs.declared.Answer.{Answer}
 use Rattle.answers.specs.Checks.{limit_good, lengths, fitting_edition, edition_good}
 use Rattle.eigen_tql2_pass.specs.Pass.{pass}
 use Rattle.eigen_tql2_pass.specs.declared.Run.{Run}
-use Rattle.eigen_tql2.specs.LStartEnd.{State, opened, stopping, released, closed, ended}
+use Rattle.eigen_tql2.specs.LStartEnd.{State, opened, closed, ended}
 use Rattle.eigen_tql2.specs.Finish.{mark2, ql_finished}
-use Rattle.eigen_symmetric_eigen.specs.SymmetricEigen.{given, cleared, eigen}
-use Rattle.eigen_tql2_step.specs.SkipSettled.{next_l, gone_on, come, skipped, found_l}
+use Rattle.eigen_symmetric_eigen.specs.SymmetricEigen.{given, eigen}
+use Rattle.eigen_tql2_step.specs.SkipSettled.{gone_on, come, skipped, found_l}
 use Rattle.eigen_tql2_step.specs.Advance.{step}
 use Rattle.eigen_tql2_step.specs.SkipSettledLaws.{undecided, decided}
 use Rattle.eigen_tql2_step.specs.Checks.{checked, in_range, sound}
 use Rattle.eigen_steps.specs.Arrays.{state_of, closed_up}
-use Rattle.eigen_steps.specs.Steps.{Outcome, running, recorded, answering, ends_as, ends_with, begun, start_entered, started, moved, stepped, finished}
+use Rattle.eigen_steps.specs.Steps.{Outcome, running, begun, start_entered, started, moved, stepped, finished}
 use Rattle.eigen_steps.specs.declared.EigenRun.{EigenRun}
-use Rattle.eigen_theorems.specs.StepsRuns.{walked, after, arrived, reply}
+use Rattle.eigen_theorems.specs.StepsRuns.{walked, after, arrived}
 use Rattle.eigen_theorems.proofs.StepsMade.{gains, started_made, walk_made}
 use Rattle.eigen_theorems.proofs.StepsEnd.{steps_end_as_one_call}
 use Rattle.eigen_tred2_definition.specs.Tred2.{tred2}
@@ -97,13 +96,13 @@ fitting_none : (e a wa b wb c wc : ℕ) → (fitting_edition e a wa b wb c wc).c
 unfolding fitting_edition
 fitting_none e a wa b wb c wc = either (λ (x : Answer). x.count ≡ 0) (not (edition_good e)) refl (lengths_none a wa b wb c wc)
 
-refusal_none : (b : Bad) → (refusal7 b).count ≡ 0
-refusal_none (At k c) = refl
-refusal_none Nowhere = refl
+refusal_none : (b : Option Bad) → (refusal7 b).count ≡ 0
+refusal_none (Some bad) = refl
+refusal_none None = refl
 
-marked_count : (m c : ℕ) (b : Bad) → (marked m c b).count ≡ c
-marked_count m c (At k d) = refl
-marked_count m c Nowhere = refl
+marked_count : (m c : ℕ) (b : Option Bad) → (marked m c b).count ≡ c
+marked_count m c (Some bad) = refl
+marked_count m c None = refl
 
 -- no pass so far, by the record and by the answer that it carries
 abbrev pub NoPass : Outcome → Type 0
@@ -114,7 +113,7 @@ unfolding begun
 begun_none n limit edition a =
     let x = tred2 n (columns n a, zeros n, zeros n) in
     let b = mark0 n x.0 x.1 x.2 in
-    either NoPass (is_bad b) (refl, marked_count 0 0 b) (refl, refl)
+    either NoPass (is_some b) (refl, marked_count 0 0 b) (refl, refl)
 
 entered_none : (n limit edition : ℕ) (a : Vec) → NoPass (start_entered n limit edition a)
 unfolding start_entered
@@ -182,7 +181,7 @@ ql_count n x =
     let P : Answer × Vec × Vec × Vec → Type 0 = λ t. t.0.count ≡ x.0.count in
     either P (eqb x.0.stop 9) refl
     (either P (not (eqb x.0.stop 0)) refl
-    (either P (is_bad (mark2 n x.1 x.2)) (marked_count 2 x.0.count (mark2 n x.1 x.2)) refl))
+    (either P (is_some (mark2 n x.1 x.2)) (marked_count 2 x.0.count (mark2 n x.1 x.2)) refl))
 
 finished_count : (n : ℕ) (x : State) → (given n (ql_finished n x)).0.count ≡ x.0.count
 unfolding given

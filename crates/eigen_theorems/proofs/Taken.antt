@@ -1,5 +1,5 @@
 -- What a call that is taken answers, and so what no call does. Laws only.
-use Rattle.std.specs.Prelude.{◌≡◌, refl, ◌⊎◌, ℕ, length}
+use Rattle.std.specs.Prelude.{◌≡◌, refl, ℕ, length}
 use Rattle.std.proofs.Common.{sym, subst, inl, inr, ⊎_elim, arith}
 use Rattle.grid.specs.Real.{Vec, at}
 use Rattle.leaves.specs.ScanLaws.{first_class}

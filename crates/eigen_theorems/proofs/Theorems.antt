@@ -1,7 +1,7 @@
 -- What is so of every call of `symmetric_eigen`, by its promise alone. Laws only.
 -- `one_outcome`: the promise leaves room for one outcome. `lower_only`: what stands above the diagonal, and what work and result held before, change nothing.
 -- `limit_raised`: an outcome that is not refusal 9 is the outcome at every higher limit. `marks_only_stop`: where it is done, the result is document 000's own.
-use Rattle.std.specs.Prelude.{◌≡◌, refl, Bool, true, false, cond, ◌++◌, ℕ, ◌+◌, ◌*◌, ◌≤◌, ◌<◌, eqb, length}
+use Rattle.std.specs.Prelude.{◌≡◌, refl, Bool, true, false, cond, ◌++◌, ℕ, ◌*◌, ◌≤◌, ◌<◌, eqb, length}
 use Rattle.std.proofs.Common.{sym, ap, ◌∙◌, arith}
 use Rattle.std.proofs.lemmas.Bool.{eqb-false}
 use Rattle.std.proofs.lemmas.List.{length-replicate}

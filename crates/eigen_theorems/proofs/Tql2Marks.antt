@@ -1,5 +1,6 @@
 -- The outcome of tql2 is the one that the run gives (`run_gives`), so marks and limit only stop document 000's own (`tql2_document`); and at each l that a run comes to, document 000's test holds at n - 1 (`test_at_last`). Laws only.
-use Rattle.std.specs.Prelude.{◌≡◌, ◌⊎◌, Bool, true, false, cond, not, ltb, eqb, Float, length}
+use Rattle.leaves.specs.declared.Bad.{Bad}
+use Rattle.std.specs.Prelude.{◌≡◌, ◌⊎◌, Bool, true, false, cond, not, ltb, eqb, Float, length, Option, Some, None, is_some}
 use Rattle.std.proofs.Math.Path.{refl, sym, subst}
 use Rattle.std.proofs.Common.{ap, ◌∙◌, add-one, arith, ltb-true, length-set, get_or-set_same, get_or-set_other}
 use Rattle.std.proofs.Math.Logic.{⊎_elim, inl, inr}
@@ -10,11 +11,9 @@ use Rattle.grid.specs.Loop.{rounds, upto}
 use Rattle.grid.specs.LoopLaws.{upto_both}
 use Rattle.grid.specs.Real.{Vec, zero64, at, ◌⊕◌}
 use Rattle.leaves.specs.Leaf.{magnitude, larger}
-use Rattle.leaves.specs.Scan.{by_rows, is_bad}
+use Rattle.leaves.specs.Scan.{by_rows, bad_at}
 use Rattle.leaves.specs.ScanLaws.{first_bad_none, scan_first}
 use Rattle.leaves.specs.FiniteLaws.{finite_both, cells_finite}
-use Rattle.leaves.specs.declared.Bad.{Bad}
-use Rattle.leaves.specs.declared.Bad.TheVariants.{At, Nowhere}
 use Rattle.answers.specs.Answers.{answered, done}
 use Rattle.answers.specs.Answers as answers
 use Rattle.eigen_tql2_pass.specs.Pass as pa
@@ -45,13 +44,13 @@ record Fine (n : ℕ) (x : State) : Type 0 where
 
 -- ---- one pass
 
-mark1_sound : (x : Carried) → mark1 x.d x.e ≡ Nowhere → Sound x
+mark1_sound : (x : Carried) → mark1 x.d x.e ≡ None → Sound x
 unfolding mark1
 mark1_sound x h =
     let o = finite_both x.d x.e (first_bad_none (list1 x) h) in
     record { values = o.0; beside = o.1 }
 
-mark1_first : (x : Carried) (b i : ℕ) → mark1 x.d x.e ≡ At i b → FirstIn (list1 x) b i
+mark1_first : (x : Carried) (b i : ℕ) → mark1 x.d x.e ≡ bad_at i b → FirstIn (list1 x) b i
 unfolding mark1
 mark1_first x b i h = scan_first (at (list1 x)) (length (list1 x)) i b h
 
@@ -82,17 +81,17 @@ one_pass n edition x h g p = go (mark1 y.2 y.3) refl (tiny y.3 x.0.tst1 x.0.l) r
         }
 
     -- what the pass leaves, by mark 1 and the test
-    left : Bad → Bool → ℕ × ℕ
+    left : Option Bad → Bool → ℕ × ℕ
     left a b = ((judged a (cond b 1 0)).stop, (judged a (cond b 1 0)).index)
 
-    go : (a : Bad) → mark1 y.2 y.3 ≡ a → (b : Bool) → tiny y.3 x.0.tst1 x.0.l ≡ b → Passed n x (pass n edition x)
-    go (At i c) q b s =
-        let e : ◌≡◌ {A = ℕ × ℕ} (c, i) ((pass n edition x).0.stop, (pass n edition x).0.index) = ap (λ (a : Bad). left a (tiny y.3 x.0.tst1 x.0.l)) (sym q) in
-        sees (subst (λ (t : ℕ × ℕ). FirstIn (list1 (carried (pass n edition x))) t.0 t.1) e (mark1_first (carried (pass n edition x)) c i q))
-    go Nowhere q true s =
+    go : (a : Option Bad) → mark1 y.2 y.3 ≡ a → (b : Bool) → tiny y.3 x.0.tst1 x.0.l ≡ b → Passed n x (pass n edition x)
+    go (Some seen) q b s =
+        let e : ◌≡◌ {A = ℕ × ℕ} (seen.class, seen.index) ((pass n edition x).0.stop, (pass n edition x).0.index) = ap (λ (a : Option Bad). left a (tiny y.3 x.0.tst1 x.0.l)) (sym q) in
+        sees (subst (λ (t : ℕ × ℕ). FirstIn (list1 (carried (pass n edition x))) t.0 t.1) e (mark1_first (carried (pass n edition x)) seen.class seen.index q))
+    go None q true s =
         let f = mark1_sound (carried (pass n edition x)) q in
         settles (λ i. (left (q i) (s i)).0) (λ i. (left (q i) (s i)).1) f s (fine f)
-    go Nowhere q false s =
+    go None q false s =
         let f = mark1_sound (carried (pass n edition x)) q in
         on (λ i. (left (q i) (s i)).0) (λ i. (left (q i) (s i)).1) f s (fine f)
 
@@ -295,13 +294,13 @@ test_at_last n limit edition l v d e h g q = go (stands n limit edition l (v, d,
 
 -- ---- the whole
 
-mark2_whole : (n : ℕ) (x : Carried) → length x.v ≡ n * n → mark2 n x.v x.d ≡ Nowhere → Whole x
+mark2_whole : (n : ℕ) (x : Carried) → length x.v ≡ n * n → mark2 n x.v x.d ≡ None → Whole x
 unfolding mark2
 mark2_whole n x l h =
     let o = finite_both x.d (by_rows n x.v) (first_bad_none (list2 n x) h) in
     record { values = o.0; vectors = cells_finite n n x.v l o.1 }
 
-mark2_first : (n : ℕ) (x : Carried) (b i : ℕ) → mark2 n x.v x.d ≡ At i b → FirstIn (list2 n x) b i
+mark2_first : (n : ℕ) (x : Carried) (b i : ℕ) → mark2 n x.v x.d ≡ bad_at i b → FirstIn (list2 n x) b i
 unfolding mark2
 mark2_first n x b i h = scan_first (at (list2 n x)) (length (list2 n x)) i b h
 
@@ -309,8 +308,8 @@ finished_gives : (n limit edition : ℕ) (x : Vec × Vec × Vec) (y : State) →
 unfolding ql_finished Stopped
 finished_gives n limit edition x y long s = go s
   where
-    end : Bad → Ended
-    end b = cond (is_bad b) (answers.marked 2 y.0.count b, y.1, y.2, y.3) (done y.0.count, (sorted n (y.1, y.2)).0, (sorted n (y.1, y.2)).1, y.3)
+    end : Option Bad → Ended
+    end b = cond (is_some b) (answers.marked 2 y.0.count b, y.1, y.2, y.3) (done y.0.count, (sorted n (y.1, y.2)).0, (sorted n (y.1, y.2)).1, y.3)
 
     after : ℕ → Ended
     after s =
@@ -320,9 +319,9 @@ finished_gives n limit edition x y long s = go s
     over : {s : ℕ} → y.0.stop ≡ s → RunGives n limit edition x (after s) → RunGives n limit edition x (after y.0.stop)
     over q a = subst (λ (s : ℕ). RunGives n limit edition x (after s)) (sym q) a
 
-    last : Ran n limit edition (begun n x) n y.0.count (carried y) → length y.1 ≡ n * n → (b : Bad) → mark2 n y.1 y.2 ≡ b → RunGives n limit edition x (end b)
-    last r l (At i b) e = at_mark2 r (mark2_first n (carried y) b i e)
-    last r l Nowhere e = well r (mark2_whole n (carried y) l e)
+    last : Ran n limit edition (begun n x) n y.0.count (carried y) → length y.1 ≡ n * n → (b : Option Bad) → mark2 n y.1 y.2 ≡ b → RunGives n limit edition x (end b)
+    last r l (Some seen) e = at_mark2 r (mark2_first n (carried y) seen.class seen.index e)
+    last r l None e = well r (mark2_whole n (carried y) l e)
 
     stopped : Halted n limit edition (begun n x) (bad y.0.stop y.0.index) n y → RunGives n limit edition x (answered y.0.stop 1 y.0.index y.0.count, y.1, y.2, y.3)
     stopped w =

@@ -1,5 +1,6 @@
 -- The outcome that a run gives (`RunGives`): one at most (`gives_once`), its loops are document 000's own, and what a stop means. Laws only.
-use Rattle.std.specs.Prelude.{◌≡◌, refl, ◌⊎◌, ℕ, suc, ◌+◌, ◌≤◌, ◌<◌, length}
+use Rattle.leaves.specs.declared.Bad.{Bad}
+use Rattle.std.specs.Prelude.{◌≡◌, refl, ◌⊎◌, ℕ, suc, ◌+◌, ◌≤◌, ◌<◌, length, Option, Some, None}
 use Rattle.std.proofs.Common.{sym, ap, ◌∙◌, subst, ⊎_elim, true≢false, arith}
 use Rattle.std.proofs.Math.Decide.{ℕ_discrete, dec_lt}
 use Rattle.grid.specs.Real.{Vec, at}
@@ -8,8 +9,6 @@ use Rattle.leaves.specs.FiniteLaws.{both_finite, finite_rows}
 use Rattle.leaves.specs.Scan.{by_rows}
 use Rattle.leaves.specs.ScanLaws as Scans
 use Rattle.leaves.specs.ScanLaws.{first_once, fine_no_first}
-use Rattle.leaves.specs.declared.Bad.{Bad}
-use Rattle.leaves.specs.declared.Bad.TheVariants.{At, Nowhere}
 use Rattle.answers.specs.Answers.{answered, done}
 use Rattle.answers.specs.declared.Answer.{Answer}
 use Rattle.eigen_tql2.specs.Sort.{sorted}
@@ -20,13 +19,13 @@ use Rattle.eigen_theorems.specs.Tql2Outcome.{Sound, FirstIn, list1, list2, End, 
 -- ---- what a mark sees
 
 -- its class and its index
-class_in : Bad → ℕ
-class_in (At i b) = b
-class_in Nowhere = 0
+class_in : Option Bad → ℕ
+class_in (Some seen) = seen.class
+class_in None = 0
 
-index_in : Bad → ℕ
-index_in (At i b) = i
-index_in Nowhere = 0
+index_in : Option Bad → ℕ
+index_in (Some seen) = seen.index
+index_in None = 0
 
 -- a class is 8 or 10
 pub first_class : (x : Vec) (b i : ℕ) → FirstIn x b i → (b ≡ 8) ⊎ (b ≡ 10)

@@ -1,5 +1,5 @@
 -- What is left of a run: `rest` is what `tql2`'s own definition still does from where the machine stands, and a step changes nothing of what that comes to (`step_whole`). Laws only.
-use Rattle.std.specs.Prelude.{◌≡◌, Bool, ◌&&◌, eqb}
+use Rattle.std.specs.Prelude.{◌≡◌, Bool, ◌&&◌, eqb, is_some}
 use Rattle.std.proofs.Math.Path.{refl, sym, ap, subst}
 use Rattle.std.proofs.Common.{◌∙◌, add-zero}
 use Rattle.std.proofs.Math.Bool.{true, false, cond, not}
@@ -11,7 +11,6 @@ use Rattle.std.proofs.Math.Dec.{ltb}
 use Rattle.grid.specs.Loop.{times, upto, rounds}
 use Rattle.grid.specs.LoopLaws.{upto_keeps, rounds_done}
 use Rattle.grid.specs.Real.{Vec}
-use Rattle.leaves.specs.Scan.{is_bad}
 use Rattle.answers.specs.Answers.{answered, done, marked}
 use Rattle.answers.specs.declared.Answer.{Answer}
 use Rattle.eigen_tql2_pass.specs.Pass.{pass}
@@ -65,7 +64,7 @@ module _ (n limit edition : ℕ) where
 
 -- what a run comes to that has not ended when its last l is done
 abbrev ending : ℕ → ℕ → Vec → Vec → Vec → Answer × Vec × Vec × Vec
-ending n c v d e = cond (is_bad (mark2 n v d)) (marked 2 c (mark2 n v d), v, d, e) (done c, (sorted n (v, d)).0, (sorted n (v, d)).1, e)
+ending n c v d e = cond (is_some (mark2 n v d)) (marked 2 c (mark2 n v d), v, d, e) (done c, (sorted n (v, d)).0, (sorted n (v, d)).1, e)
 
 pub finished_going : (n : ℕ) (x : State) → x.0.stop ≡ 0 → ql_finished n x ≡ ending n x.0.count x.1 x.2 x.3
 unfolding ql_finished

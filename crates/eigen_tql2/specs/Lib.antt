@@ -10,6 +10,7 @@ pub mod RunOverL
 pub mod RunOverLBounds
 -- Finish: mark 2, the answer of a run, and the sort.
 pub mod Finish
--- Tql2: the definition of tql2, with its marks and its limit.
+-- Tql2: the definition of tql2, with its marks and its limit. Tql2Laws: laws.
 pub mod Tql2
 pub mod Tql2Steps
+pub mod Tql2Laws

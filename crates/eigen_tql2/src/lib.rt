@@ -12,17 +12,14 @@ ghost use Rattle.eigen_tql2.specs.Tql2.{moved_up, tql2};
 
 use crate::run_over_l::run;
 use answers::Answer;
-use grid::{at1, put1};
 
 // The subdiagonal moves one place towards the start, and its last is 0.
 pub fn move_up(n: usize, e: &mut [f64])
     requires { (0 < n) × (length e.old ≡ n) }
     ensures { e.new ≡ moved_up n e.old }
 {
-    for i in 1..n {
-        put1(e, i - 1, at1(e, i));
-    }
-    put1(e, n - 1, 0.0);
+    e.copy_within(1.., 0);
+    e[n - 1] = 0.0;
 }
 
 pub fn tql2(

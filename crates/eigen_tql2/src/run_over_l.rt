@@ -6,30 +6,27 @@ ghost use Rattle.eigen_tql2.specs.RunOverLBounds.{Ready};
 ghost use Rattle.eigen_tql2.specs.RunOverL.{iterated, turn, run};
 
 use crate::l_start_end::{begin, close};
-use eigen_tql2_pass::{Run, pass};
+use eigen_tql2_pass::{GOING, Run, pass};
 
 // At most limit passes at the run's l.
 fn iterate(
     n: usize,
     limit: usize,
     edition: usize,
-    r0: Run,
+    first: Run,
     v: &mut [f64],
     d: &mut [f64],
     e: &mut [f64],
 ) -> Run
-    requires { (limit ≤ 60) × Ready n r0 × Sized n v.old d.old e.old }
-    ensures { (result, v.new, d.new, e.new) ≡ iterated n limit edition (r0, v.old, d.old, e.old) }
+    requires { (limit ≤ 60) × Ready n first × Sized n v.old d.old e.old }
+    ensures { (result, v.new, d.new, e.new) ≡ iterated n limit edition (first, v.old, d.old, e.old) }
 {
-    if r0.stop != 0 {
-        return r0;
-    }
-    let mut r = r0;
-    while r.passes < limit {
-        r = pass(n, edition, r, v, d, e);
-        if r.stop != 0 {
+    let mut r = first;
+    for _ in 0..limit {
+        if r.stop != GOING {
             return r;
         }
+        r = pass(n, edition, r, v, d, e);
     }
     r
 }
@@ -48,7 +45,7 @@ fn turn(
     requires { (l < n) × (limit ≤ 60) × (r.count + 60 < 2 ^ 64) × Sized n v.old d.old e.old }
     ensures { (result, v.new, d.new, e.new) ≡ turn n limit edition l (r, v.old, d.old, e.old) }
 {
-    if r.stop != 0 {
+    if r.stop != GOING {
         return r;
     }
     let q = begin(n, l, r, d, e);
@@ -68,16 +65,7 @@ pub fn run(
     requires { (n ≤ 256) × (limit ≤ 60) × Sized n v.old d.old e.old }
     ensures { (result, v.new, d.new, e.new) ≡ run n limit edition (fresh, v.old, d.old, e.old) }
 {
-    let mut r = Run {
-        l: 0,
-        m: 0,
-        f: 0.0,
-        tst1: 0.0,
-        passes: 0,
-        count: 0,
-        stop: 0,
-        index: 0,
-    };
+    let mut r = Run::default();
     for l in 0..n {
         r = turn(n, limit, edition, l, r, v, d, e);
     }

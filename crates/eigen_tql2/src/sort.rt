@@ -3,8 +3,6 @@ ghost use Rattle.std.specs.Prelude.{◌≡◌, ◌*◌, ◌<◌, length};
 ghost use Rattle.eigen_tql2.specs.Sort.{least_from, swapped, sort_step, sorted};
 ghost use Rattle.eigen_tql2.specs.SortSteps.{better};
 
-use grid::{at, at1, put, put1};
-
 // The least number so far, and where it is.
 #[derive(Clone, Copy)]
 pub struct Best {
@@ -16,7 +14,7 @@ fn better(d: &[f64], j: usize, b: Best) -> Best
     requires { j < length d.now }
     ensures { result ≡ better d.now j b }
 {
-    let x = at1(d, j);
+    let x = d[j];
     if x < b.p { Best { k: j, p: x } } else { b }
 }
 
@@ -25,8 +23,7 @@ fn least_from(n: usize, i: usize, d: &[f64]) -> Best
     requires { (i < n) × (length d.now ≡ n) }
     ensures { result ≡ least_from n i d.now }
 {
-    let p = at1(d, i);
-    let mut b = Best { k: i, p };
+    let mut b = Best { k: i, p: d[i] };
     for j in i + 1..n {
         b = better(d, j, b);
     }
@@ -39,10 +36,7 @@ fn swap(n: usize, i: usize, k: usize, v: &mut [f64])
     ensures { v.new ≡ swapped n i k v.old }
 {
     for row in 0..n {
-        let x = at(v, n, n, row, i);
-        let y = at(v, n, n, row, k);
-        put(v, n, n, row, i, y);
-        put(v, n, n, row, k, x);
+        v.swap(i * n + row, k * n + row);
     }
 }
 
@@ -51,14 +45,11 @@ fn sort_at(n: usize, i: usize, v: &mut [f64], d: &mut [f64])
     requires { (i < n) × (length v.old ≡ n * n) × (length d.old ≡ n) }
     ensures { (v.new, d.new) ≡ sort_step n i (v.old, d.old) }
 {
-    let b = least_from(n, i, d);
-    let k = b.k;
-    if k == i {
-        return;
+    let k = least_from(n, i, d).k;
+    if k != i {
+        d.swap(k, i);
+        swap(n, i, k, v);
     }
-    put1(d, k, at1(d, i));
-    put1(d, i, b.p);
-    swap(n, i, k, v);
 }
 
 // The values in ascending order, the columns moving with them.

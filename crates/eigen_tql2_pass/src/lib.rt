@@ -5,17 +5,25 @@ pub mod ql_transformation; // The QL transformation of one pass of `tql2` (EISPA
 
 ghost use Rattle.std.specs.Prelude.{◌≡◌, ◌+◌, ◌*◌, ◌<◌, ◌^◌, length};
 ghost use Rattle.grid.specs.CellLaws.{Sized};
-ghost use Rattle.eigen_tql2_pass.specs.Pass.{mark1, settled, judged, verdict, pass};
+ghost use Rattle.eigen_tql2_pass.specs.Pass.{tiny, mark1, verdict, for_reason, pass};
 
 use crate::ql_transformation::transform;
-use grid::{EPSILON, at1};
+use grid::EPSILON;
 use leaves::scan::first_bad_of_both;
 use leaves::{Bad, magnitude};
 
-// A run of `tql2` at l. stop is 0 while passes are to be run at l, 1 where l has settled, 8 or 10 where a number is not
-// finite, which index tells, 9 where the limit is used up.
+// Why the passes at an l stop, in a run's stop: not at all; l has settled; the limit is used up. Else it is the class of the
+// number that mark 1 saw. They are numbers, not an enum, since C reads them in a Run.
+pub const GOING: usize = 0;
+
+pub const CONVERGED: usize = 1;
+
+pub const LIMIT_USED: usize = 9;
+
+// A run of `tql2` at l. stop is GOING while passes are to be run at l, CONVERGED where l has settled, 8 or 10 where a number
+// is not finite, which index tells, LIMIT_USED where the limit is used up. The default is a run before its first l.
 #[repr(C)]
-#[derive(Clone, Copy)]
+#[derive(Clone, Copy, Default)]
 pub struct Run {
     pub l: usize,
     pub m: usize,
@@ -27,47 +35,32 @@ pub struct Run {
     pub index: usize,
 }
 
-// Why the passes stop: a run's stop and index.
-#[derive(Clone, Copy)]
-pub struct Reason {
-    pub stop: usize,
-    pub index: usize,
-}
-
 // Mark 1.
-pub fn mark1(d: &[f64], e: &[f64]) -> Bad
+pub fn mark1(d: &[f64], e: &[f64]) -> Option<Bad>
     ensures { result ≡ mark1 d.now e.now }
 {
     first_bad_of_both(d, e)
 }
 
-// Document 000's convergence test: 1 where l has settled, else 0.
-fn settled(l: usize, tst1: f64, e: &[f64]) -> usize
-    requires { l < length e.now }
-    ensures { result ≡ settled l tst1 e.now }
+// e[k] counts as zero: document 000's convergence test where k is l.
+pub fn tiny(e: &[f64], tst1: f64, k: usize) -> bool
+    requires { k < length e.now }
+    ensures { result ≡ tiny e.now tst1 k }
 {
-    if magnitude(at1(e, l)) <= EPSILON * tst1 {
-        return 1;
-    }
-    0
+    magnitude(e[k]) <= EPSILON * tst1
 }
 
-// The class and the index of what a mark saw, or else another reason to stop.
-fn judged(b: Bad, stop: usize) -> Reason
-    ensures { result ≡ judged b stop }
+// After a pass: mark 1, then the convergence test, may stop the passes at l.
+fn judged(r: Run, d: &[f64], e: &[f64]) -> Run
+    requires { r.l < length e.now }
+    ensures { result ≡ for_reason r (verdict r.l r.tst1 d.now e.now) }
 {
-    match b {
-        Bad::At(k, c) => Reason { stop: c, index: k },
-        Bad::Nowhere => Reason { stop, index: 0 },
-    }
-}
-
-// What stops the passes at l: mark 1 (8 or 10), then the convergence test (1); else they go on (0).
-fn verdict(l: usize, tst1: f64, d: &[f64], e: &[f64]) -> Reason
-    requires { l < length e.now }
-    ensures { result ≡ verdict l tst1 d.now e.now }
-{
-    judged(mark1(d, e), settled(l, tst1, e))
+    let (stop, index) = match mark1(d, e) {
+        Some(bad) => (bad.class, bad.index),
+        None if tiny(e, r.tst1, r.l) => (CONVERGED, 0),
+        None => (GOING, 0),
+    };
+    Run { stop, index, ..r }
 }
 
 // One QL pass.
@@ -76,15 +69,11 @@ pub fn pass(n: usize, edition: usize, r: Run, v: &mut [f64], d: &mut [f64], e: &
     ensures { (result, v.new, d.new, e.new) ≡ pass n edition (r, v.old, d.old, e.old) }
 {
     let h = transform(n, edition, r.l, r.m, v, d, e);
-    let t = verdict(r.l, r.tst1, d, e);
-    Run {
-        l: r.l,
-        m: r.m,
+    let q = Run {
         f: r.f + h,
-        tst1: r.tst1,
         passes: r.passes + 1,
         count: r.count + 1,
-        stop: t.stop,
-        index: t.index,
-    }
+        ..r
+    };
+    judged(q, d, e)
 }

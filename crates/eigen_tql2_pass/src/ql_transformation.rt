@@ -3,7 +3,7 @@ ghost use Rattle.std.specs.Prelude.{◌≡◌, ◌+◌, ◌*◌, ◌<◌, ◌≤
 ghost use Rattle.grid.specs.CellLaws.{Sized};
 ghost use Rattle.eigen_tql2_pass.specs.Transform.{signed, shift, lessened, rotated, spin, spins, landed, transformed};
 
-use grid::{at, at1, put, put1};
+use grid::{at, put};
 use hypot::pythag;
 
 // What one turn of a pass hands to the next.
@@ -29,13 +29,13 @@ fn shift(edition: usize, l: usize, d: &mut [f64], e: &[f64]) -> f64
     requires { (l + 1 < length d.old) × (l < length e.now) }
     ensures { (result, d.new) ≡ shift edition l d.old e.now }
 {
-    let g = at1(d, l);
-    let el = at1(e, l);
-    let p = (at1(d, l + 1) - g) / (2.0 * el);
+    let g = d[l];
+    let el = e[l];
+    let p = (d[l + 1] - g) / (2.0 * el);
     let q = p + signed(p, pythag(edition, p, 1.0));
     let dl = el / q;
-    put1(d, l, dl);
-    put1(d, l + 1, el * q);
+    d[l] = dl;
+    d[l + 1] = el * q;
     g - dl
 }
 
@@ -45,7 +45,7 @@ fn lessen(n: usize, l: usize, h: f64, d: &mut [f64])
     ensures { d.new ≡ lessened n l h d.old }
 {
     for i in l + 2..n {
-        put1(d, i, at1(d, i) - h);
+        d[i] -= h;
     }
 }
 
@@ -75,15 +75,15 @@ fn spin_at(
     requires { (i + 1 < n) × Sized n v.old d.old e.old }
     ensures { (result, v.new, d.new, e.new) ≡ spin n edition i (q, v.old, d.old, e.old) }
 {
-    let di = at1(d, i);
-    let ei = at1(e, i);
+    let di = d[i];
+    let ei = e[i];
     let g = q.c * ei;
     let h = q.c * q.p;
     let r = pythag(edition, q.p, ei);
-    put1(e, i + 1, q.s * r);
+    e[i + 1] = q.s * r;
     let s = ei / r;
     let c = q.p / r;
-    put1(d, i + 1, h + s * (c * g + s * di));
+    d[i + 1] = h + s * (c * g + s * di);
     rotate(n, i, c, s, v);
     Spin {
         c,
@@ -101,18 +101,16 @@ fn spins(
     edition: usize,
     l: usize,
     m: usize,
-    q0: Spin,
+    first: Spin,
     v: &mut [f64],
     d: &mut [f64],
     e: &mut [f64],
 ) -> Spin
     requires { (l ≤ m) × (m < n) × Sized n v.old d.old e.old }
-    ensures { (result, v.new, d.new, e.new) ≡ spins n edition l m (q0, v.old, d.old, e.old) }
+    ensures { (result, v.new, d.new, e.new) ≡ spins n edition l m (first, v.old, d.old, e.old) }
 {
-    let mut q = q0;
-    let mut i = m;
-    while i > l {
-        i -= 1;
+    let mut q = first;
+    for i in (l..m).rev() {
         q = spin_at(n, edition, i, q, v, d, e);
     }
     q
@@ -123,9 +121,9 @@ fn land(l: usize, q: Spin, el1: f64, dl1: f64, d: &mut [f64], e: &mut [f64])
     requires { (l < length d.old) × (l < length e.old) }
     ensures { (d.new, e.new) ≡ landed l q el1 dl1 (d.old, e.old) }
 {
-    let p = -q.s * q.s2 * q.c3 * el1 * at1(e, l) / dl1;
-    put1(e, l, q.s * p);
-    put1(d, l, q.c * p);
+    let p = -q.s * q.s2 * q.c3 * el1 * e[l] / dl1;
+    e[l] = q.s * p;
+    d[l] = q.c * p;
 }
 
 // The body of document 000's loop, which adds the h given back to f.
@@ -142,27 +140,18 @@ pub fn transform(
     ensures { (result, v.new, d.new, e.new) ≡ transformed n edition l m (v.old, d.old, e.old) }
 {
     let h = shift(edition, l, d, e);
-    let dl1 = at1(d, l + 1);
+    let dl1 = d[l + 1];
     lessen(n, l, h, d);
-    let p = at1(d, m);
-    let el1 = at1(e, l + 1);
-    let q = spins(
-        n,
-        edition,
-        l,
-        m,
-        Spin {
-            c: 1.0,
-            c2: 1.0,
-            c3: 1.0,
-            s: 0.0,
-            s2: 0.0,
-            p,
-        },
-        v,
-        d,
-        e,
-    );
+    let el1 = e[l + 1];
+    let first = Spin {
+        c: 1.0,
+        c2: 1.0,
+        c3: 1.0,
+        s: 0.0,
+        s2: 0.0,
+        p: d[m],
+    };
+    let q = spins(n, edition, l, m, first, v, d, e);
     land(l, q, el1, dl1, d, e);
     h
 }

@@ -1,7 +1,7 @@
 -- What the checks leave of a run still going. Laws only.
 -- `Open` is what the code asks of a run that it moves on; no public promise cites it.
-use Rattle.std.specs.Prelude.{◌≡◌, Bool, true, false, not, ◌||◌, ℕ, ◌+◌, ◌-◌, ◌*◌, ◌≤◌, ◌<◌, ◌^◌, ltb, leb, eqb, length, take, drop}
-use Rattle.std.proofs.Common.{sym, ◌∙◌, true≢false, mul-le-mul, arith, ltb-true, leb-true, eqb-true, ne_eqb, length-drop, take_all}
+use Rattle.std.specs.Prelude.{◌≡◌, Bool, true, false, not, ◌||◌, ℕ, ◌+◌, ◌-◌, ◌*◌, ◌≤◌, ◌<◌, ltb, leb, eqb, length, take, drop}
+use Rattle.std.proofs.Common.{sym, ◌∙◌, true≢false, arith, ltb-true, leb-true, eqb-true, ne_eqb, length-drop, take_all}
 use Rattle.std.proofs.lemmas.Bool.{not-true, not-false}
 use Rattle.grid.specs.Real.{Vec}
 use Rattle.grid.specs.LoopLaws.{both}
@@ -77,19 +77,6 @@ limit_within limit e h = (limit_right limit (sym e ∙ h)).1
 
 pub from_on : (l : ℕ) (xs : Vec) → l ≤ length xs → take (length xs - l) (drop l xs) ≡ drop l xs
 from_on l xs h = take_all (length xs - l) (drop l xs) (omega (arith, length-drop l xs))
-
--- ---- lengths of any size
-
-pub too_long : (n len : ℕ) → 4294967295 < n → len < 2 ^ 64 → eqb len (n + n * n) ≡ false
-too_long n len h g =
-    let k : 4294967296 ≤ n = omega arith in
-    let m : 4294967296 * 4294967296 ≤ n * n = mul-le-mul k k in
-    ne_eqb len (n + n * n) (λ e. omega (arith, m))
-
-pub square_room : (n : ℕ) → n ≤ 4294967295 → n + n * n < 2 ^ 64
-square_room n h =
-    let m : n * n ≤ 4294967295 * 4294967295 = mul-le-mul h h in
-    omega (arith, m)
 
 -- ---- a test that is made by a call: b is what came back, and c what it is
 

@@ -1,9 +1,9 @@
 -- What a step and a finish refuse of a run still going: 6, then 13. Definitions only.
-use Rattle.std.specs.Prelude.{Bool, cond, not, ◌&&◌, ◌||◌, ℕ, ◌+◌, ◌*◌, ◌-◌, ltb, leb, eqb, length, drop}
+use Rattle.std.specs.Prelude.{Bool, cond, not, ◌&&◌, ◌||◌, ℕ, ◌+◌, ◌*◌, ◌-◌, ltb, leb, eqb, length, drop, is_some}
 use Rattle.std.specs.Float.Ieee.{le, eq}
 use Rattle.grid.specs.Real.{Vec, zero64, at}
 use Rattle.grid.specs.Table.{part}
-use Rattle.leaves.specs.Scan.{is_bad, first_bad}
+use Rattle.leaves.specs.Scan.{first_bad}
 use Rattle.answers.specs.Answers.{done, refused, passed}
 use Rattle.answers.specs.declared.Answer.{Answer}
 use Rattle.answers.specs.Checks.{limit_good, edition_good, lengths}
@@ -28,7 +28,7 @@ in_range n limit edition r =
 unfoldable pub sound : ℕ → Run → Vec → Vec → Bool
 sound n r work result =
     le zero64 r.tst1
-    && (eq (at work (n - 1)) zero64 && (not (is_bad (first_bad (part r.l n result))) && not (is_bad (first_bad (drop r.l work)))))
+    && (eq (at work (n - 1)) zero64 && (not (is_some (first_bad (part r.l n result))) && not (is_some (first_bad (drop r.l work)))))
 
 -- 6, its place 0 for work and 1 for the result; then 13; or done
 unfoldable pub checked : ℕ → ℕ → ℕ → Run → Vec → Vec → Answer

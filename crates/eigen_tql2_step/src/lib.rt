@@ -13,16 +13,13 @@ ghost use Rattle.eigen_tql2_step.specs.CheckLaws.{Open};
 
 use crate::skip_settled::{find, onward};
 use eigen_tql2::l_start_end::close;
-use eigen_tql2_pass::{Run, pass};
+use eigen_tql2_pass::{GOING, Run, pass};
 
 // More passes are to be run at this l.
 fn undecided(limit: usize, r: Run) -> bool
     ensures { result ≡ undecided limit r }
 {
-    if r.stop != 0 {
-        return false;
-    }
-    r.passes < limit
+    r.stop == GOING && r.passes < limit
 }
 
 // After a pass: the run stays at this l, or goes on to the next, or has ended.
@@ -31,9 +28,10 @@ fn decide(limit: usize, r: Run, d: &mut [f64], e: &mut [f64]) -> Run
     ensures { (v : Vec) → (result, v, d.new, e.new) ≡ decided limit (r, v, d.old, e.old) }
 {
     if undecided(limit, r) {
-        return r;
+        r
+    } else {
+        onward(close(r, d, e))
     }
-    onward(close(r, d, e))
 }
 
 // Settled l are skipped, and one pass is run, none after the last l.

@@ -1,4 +1,4 @@
 -- The similarity transformation by pairs of columns.
 pub mod ColumnPairs
--- Columns turned by fours.
-pub mod FourColumns
+-- Columns turned together.
+pub mod Columns

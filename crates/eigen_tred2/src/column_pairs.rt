@@ -4,9 +4,9 @@ ghost use Rattle.std.specs.Prelude.{◌≡◌, ◌+◌, ◌*◌, ◌<◌, length
 ghost use Rattle.grid.specs.CellLaws.{Sized};
 ghost use Rattle.eigen_tred2.specs.ColumnPairs.{sums, two_columns};
 
-use grid::{at, at1, put1};
+use grid::at;
 
-// A number of column j and one of column j + 1.
+// A number of column j and one of column j + 1, by name: the two columns take different parts.
 #[derive(Clone, Copy)]
 pub struct Pair {
     pub a: f64,
@@ -20,8 +20,8 @@ pub fn sums(n: usize, j: usize, f: Pair, v: &[f64], e: &[f64]) -> Pair
 {
     let x = at(v, n, n, j + 1, j);
     Pair {
-        a: at1(e, j) + at(v, n, n, j, j) * f.a + x * f.b,
-        b: at1(e, j + 1) + x * f.a + at(v, n, n, j + 1, j + 1) * f.b,
+        a: e[j] + at(v, n, n, j, j) * f.a + x * f.b,
+        b: e[j + 1] + x * f.a + at(v, n, n, j + 1, j + 1) * f.b,
     }
 }
 
@@ -43,12 +43,10 @@ pub fn similar_two(
     for k in j + 2..i {
         let x = at(v, n, n, k, j);
         let y = at(v, n, n, k, j + 1);
-        let z = at1(d, k);
-        g = Pair {
-            a: g.a + x * z,
-            b: g.b + y * z,
-        };
-        put1(e, k, at1(e, k) + x * f.a + y * f.b);
+        let z = d[k];
+        g.a += x * z;
+        g.b += y * z;
+        e[k] = e[k] + x * f.a + y * f.b;
     }
     g
 }

@@ -2,7 +2,6 @@
 ghost use Rattle.std.specs.Prelude.{◌≡◌, ◌<◌, ◌≤◌, length};
 ghost use Rattle.eigen_tred2_definition.specs.Tred2.{scale_of, over_scale, clear, against, generate};
 
-use grid::{at1, put1};
 use leaves::magnitude;
 use root::root;
 
@@ -11,8 +10,8 @@ pub fn scale_of(i: usize, d: &[f64]) -> f64
     ensures { result ≡ scale_of i d.now }
 {
     let mut scale = 0.0;
-    for k in 0..i {
-        scale = scale + magnitude(at1(d, k));
+    for x in &d[..i] {
+        scale += magnitude(*x);
     }
     scale
 }
@@ -22,10 +21,9 @@ fn over_scale(i: usize, scale: f64, d: &mut [f64]) -> f64
     ensures { (result, d.new) ≡ over_scale i scale d.old }
 {
     let mut h = 0.0;
-    for k in 0..i {
-        let x = at1(d, k) / scale;
-        put1(d, k, x);
-        h = h + x * x;
+    for x in &mut d[..i] {
+        *x /= scale;
+        h += *x * *x;
     }
     h
 }
@@ -34,9 +32,7 @@ fn clear(i: usize, e: &mut [f64])
     requires { i ≤ length e.old }
     ensures { e.new ≡ clear i e.old }
 {
-    for j in 0..i {
-        put1(e, j, 0.0);
-    }
+    e[..i].fill(0.0);
 }
 
 // g with the sign that f has not, so that f - g loses no digits.
@@ -52,10 +48,10 @@ pub fn generate(i: usize, scale: f64, d: &mut [f64], e: &mut [f64]) -> f64
     ensures { (result, d.new, e.new) ≡ generate i scale d.old e.old }
 {
     let h = over_scale(i, scale, d);
-    let f = at1(d, i - 1);
+    let f = d[i - 1];
     let g = against(f, root(h));
-    put1(e, i, scale * g);
-    put1(d, i - 1, f - g);
+    e[i] = scale * g;
+    d[i - 1] = f - g;
     clear(i, e);
     h - f * g
 }

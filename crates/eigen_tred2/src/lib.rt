@@ -11,8 +11,9 @@ ghost use Rattle.std.specs.Prelude.{◌≡◌, ◌+◌, ◌*◌, ◌<◌, length
 ghost use Rattle.grid.specs.CellLaws.{Sized};
 ghost use Rattle.eigen_tred2_definition.specs.Tred2.{clear_column, apply, accumulate, accumulation, copy_last, move_last, tred2};
 
-use crate::turn_columns::column_over;
-use grid::{at, at1, put, put1};
+use crate::reduction::reduction;
+use crate::turn_columns::{column_over, turn_columns};
+use grid::{at, put};
 
 fn clear_column(n: usize, m: usize, v: &mut [f64])
     requires { (m < n) × (length v.old ≡ n * n) }
@@ -29,7 +30,7 @@ fn apply(n: usize, m: usize, h: f64, v: &mut [f64], d: &mut [f64])
 {
     if h != 0.0 {
         column_over(n, m, h, v, d);
-        crate::turn_columns::turn_columns(n, m, v, d);
+        turn_columns(n, m, v, d);
     }
 }
 
@@ -39,7 +40,7 @@ fn accumulate(n: usize, i: usize, v: &mut [f64], d: &mut [f64])
 {
     put(v, n, n, n - 1, i, at(v, n, n, i, i));
     put(v, n, n, i, i, 1.0);
-    apply(n, i + 1, at1(d, i + 1), v, d);
+    apply(n, i + 1, d[i + 1], v, d);
     clear_column(n, i + 1, v);
 }
 
@@ -57,7 +58,7 @@ fn copy_last(n: usize, v: &[f64], d: &mut [f64])
     ensures { d.new ≡ copy_last n v.now d.old }
 {
     for j in 0..n {
-        put1(d, j, at(v, n, n, n - 1, j));
+        d[j] = at(v, n, n, n - 1, j);
     }
 }
 
@@ -66,7 +67,7 @@ fn move_last(n: usize, v: &mut [f64], d: &mut [f64])
     ensures { (v.new, d.new) ≡ move_last n (v.old, d.old) }
 {
     for j in 0..n {
-        put1(d, j, at(v, n, n, n - 1, j));
+        d[j] = at(v, n, n, n - 1, j);
         put(v, n, n, n - 1, j, 0.0);
     }
 }
@@ -78,9 +79,9 @@ pub fn tred2(n: usize, v: &mut [f64], d: &mut [f64], e: &mut [f64])
     ensures { (v.new, d.new, e.new) ≡ tred2 n (v.old, d.old, e.old) }
 {
     copy_last(n, v, d);
-    crate::reduction::reduction(n, v, d, e);
+    reduction(n, v, d, e);
     accumulation(n, v, d);
     move_last(n, v, d);
     put(v, n, n, n - 1, n - 1, 1.0);
-    put1(e, 0, 0.0);
+    e[0] = 0.0;
 }

@@ -5,14 +5,14 @@ ghost use Rattle.eigen_tred2_definition.specs.Tred2.{skip_row, over_h, lessen, u
 
 use crate::householder::{generate, scale_of};
 use crate::similarity::similarity;
-use grid::{at, at1, put, put1};
+use grid::{at, put};
 
 fn skip_row(n: usize, i: usize, v: &mut [f64], d: &mut [f64])
     requires { (0 < i) × (i < n) × (length v.old ≡ n * n) × (length d.old ≡ n) }
     ensures { (v.new, d.new) ≡ skip_row n i (v.old, d.old) }
 {
     for j in 0..i {
-        put1(d, j, at(v, n, n, i - 1, j));
+        d[j] = at(v, n, n, i - 1, j);
         put(v, n, n, i, j, 0.0);
         put(v, n, n, j, i, 0.0);
     }
@@ -24,9 +24,9 @@ fn over_h(i: usize, h: f64, d: &[f64], e: &mut [f64]) -> f64
 {
     let mut f = 0.0;
     for j in 0..i {
-        let x = at1(e, j) / h;
-        put1(e, j, x);
-        f = f + x * at1(d, j);
+        let x = e[j] / h;
+        e[j] = x;
+        f += x * d[j];
     }
     f
 }
@@ -36,7 +36,7 @@ fn lessen(i: usize, hh: f64, d: &[f64], e: &mut [f64])
     ensures { e.new ≡ lessen i hh d.now e.old }
 {
     for j in 0..i {
-        put1(e, j, at1(e, j) - hh * at1(d, j));
+        e[j] -= hh * d[j];
     }
 }
 
@@ -45,7 +45,7 @@ fn update_column(n: usize, i: usize, j: usize, f: f64, g: f64, v: &mut [f64], d:
     ensures { v.new ≡ update_column n i j f g d.now e.now v.old }
 {
     for k in j..i {
-        let x = f * at1(e, k) + g * at1(d, k);
+        let x = f * e[k] + g * d[k];
         put(v, n, n, k, j, at(v, n, n, k, j) - x);
     }
 }
@@ -55,8 +55,8 @@ fn updates(n: usize, i: usize, v: &mut [f64], d: &mut [f64], e: &[f64])
     ensures { (v.new, d.new) ≡ updates n i e.now (v.old, d.old) }
 {
     for j in 0..i {
-        update_column(n, i, j, at1(d, j), at1(e, j), v, d, e);
-        put1(d, j, at(v, n, n, i - 1, j));
+        update_column(n, i, j, d[j], e[j], v, d, e);
+        d[j] = at(v, n, n, i - 1, j);
         put(v, n, n, i, j, 0.0);
     }
 }
@@ -77,7 +77,7 @@ fn skip(n: usize, i: usize, v: &mut [f64], d: &mut [f64], e: &mut [f64]) -> f64
     requires { (0 < i) × (i < n) × Sized n v.old d.old e.old }
     ensures { (result, v.new, d.new, e.new) ≡ skip n i (v.old, d.old, e.old) }
 {
-    put1(e, i, at1(d, i - 1));
+    e[i] = d[i - 1];
     skip_row(n, i, v, d);
     0.0
 }
@@ -99,16 +99,14 @@ fn householder(n: usize, i: usize, v: &mut [f64], d: &mut [f64], e: &mut [f64])
 {
     let scale = scale_of(i, d);
     let h = reduce(n, i, scale, v, d, e);
-    put1(d, i, h);
+    d[i] = h;
 }
 
 pub fn reduction(n: usize, v: &mut [f64], d: &mut [f64], e: &mut [f64])
     requires { (0 < n) × Sized n v.old d.old e.old }
     ensures { (v.new, d.new, e.new) ≡ reduction n (v.old, d.old, e.old) }
 {
-    let mut i = n - 1;
-    while i > 0 {
+    for i in (1..n).rev() {
         householder(n, i, v, d, e);
-        i -= 1;
     }
 }

@@ -1,13 +1,12 @@
 // The similarity transformation of one step of tred2's reduction, by pairs of columns.
-ghost use Rattle.std.specs.Prelude.{◌≡◌, ◌+◌, ◌*◌, ◌/◌, ◌<◌};
+ghost use Rattle.std.specs.Prelude.{◌≡◌, ◌+◌, ◌<◌};
 ghost use Rattle.grid.specs.CellLaws.{Sized};
-ghost use Rattle.grid.specs.Loop.{upto};
 ghost use Rattle.eigen_tred2_definition.specs.Tred2.{similar_column, similarity};
 ghost use Rattle.eigen_tred2_definition.specs.Tred2Steps.{similarity_step};
 ghost use Rattle.eigen_tred2.specs.ColumnPairs.{pair_step};
 
 use crate::column_pairs::{Pair, similar_two, sums};
-use grid::{at, at1, put, put1};
+use grid::{at, put};
 
 fn similar_column(
     n: usize,
@@ -25,8 +24,8 @@ fn similar_column(
     let mut g = g0;
     for k in j + 1..i {
         let x = at(v, n, n, k, j);
-        g = g + x * at1(d, k);
-        put1(e, k, at1(e, k) + x * f);
+        g += x * d[k];
+        e[k] += x * f;
     }
     g
 }
@@ -35,11 +34,11 @@ fn similar_one(n: usize, i: usize, j: usize, v: &mut [f64], d: &[f64], e: &mut [
     requires { (j < i) × (i < n) × Sized n v.old d.now e.old }
     ensures { (v.new, e.new) ≡ similarity_step n i d.now j (v.old, e.old) }
 {
-    let f = at1(d, j);
+    let f = d[j];
     put(v, n, n, j, i, f);
-    let g0 = at1(e, j) + at(v, n, n, j, j) * f;
+    let g0 = e[j] + at(v, n, n, j, j) * f;
     let g = similar_column(n, i, j, f, g0, v, d, e);
-    put1(e, j, g);
+    e[j] = g;
 }
 
 fn similar_pair(n: usize, i: usize, j: usize, v: &mut [f64], d: &[f64], e: &mut [f64])
@@ -47,24 +46,15 @@ fn similar_pair(n: usize, i: usize, j: usize, v: &mut [f64], d: &[f64], e: &mut 
     ensures { (v.new, e.new) ≡ pair_step n i d.now j (v.old, e.old) }
 {
     let f = Pair {
-        a: at1(d, j),
-        b: at1(d, j + 1),
+        a: d[j],
+        b: d[j + 1],
     };
     put(v, n, n, j, i, f.a);
     put(v, n, n, j + 1, i, f.b);
     let g0 = sums(n, j, f, v, e);
     let g = similar_two(n, i, j, f, g0, v, d, e);
-    put1(e, j, g.a);
-    put1(e, j + 1, g.b);
-}
-
-fn similar_pairs(n: usize, i: usize, v: &mut [f64], d: &[f64], e: &mut [f64])
-    requires { (i < n) × Sized n v.old d.now e.old }
-    ensures { (v.new, e.new) ≡ upto (similarity_step n i d.now) 0 (i / 2 * 2) (v.old, e.old) }
-{
-    for q in 0..i / 2 {
-        similar_pair(n, i, q * 2, v, d, e);
-    }
+    e[j] = g.a;
+    e[j + 1] = g.b;
 }
 
 // By pairs, and the last of an odd number alone.
@@ -72,7 +62,9 @@ pub fn similarity(n: usize, i: usize, v: &mut [f64], d: &[f64], e: &mut [f64])
     requires { (i < n) × Sized n v.old d.now e.old }
     ensures { (v.new, e.new) ≡ similarity n i d.now (v.old, e.old) }
 {
-    similar_pairs(n, i, v, d, e);
+    for q in 0..i / 2 {
+        similar_pair(n, i, q * 2, v, d, e);
+    }
     for j in i / 2 * 2..i {
         similar_one(n, i, j, v, d, e);
     }

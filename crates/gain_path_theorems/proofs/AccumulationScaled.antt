@@ -1,11 +1,10 @@
 -- The accumulation of `tred2` in two runs: it computes nothing that carries the gain, and the diagonal, which does, waits in the last row. Laws only.
-use Rattle.std.specs.Prelude.{◌≡◌, Bool, true, false, cond, ℕ, zero, suc, ◌+◌, ◌-◌, ◌≤◌, ◌<◌, T, ltb, Float, set}
+use Rattle.std.specs.Prelude.{◌≡◌, Bool, true, false, cond, ℕ, suc, ◌+◌, ◌-◌, ◌≤◌, ◌<◌, T, ltb, Float}
 use Rattle.std.proofs.Math.Path.{refl, ap₂}
-use Rattle.std.proofs.Common.{sym, ap, ◌∙◌, subst, subst₂, le_antisymm, ltb-true, ltb-false}
+use Rattle.std.proofs.Common.{ap, le_antisymm, ltb-true, ltb-false}
 use native.Mathlib.Omega.{arith}
 use Rattle.std.specs.Float.Ieee.{binary64, fits, of_bits, ne}
 use Rattle.std.specs.Float.Ieee.Fits.{div-fits, sub-fits}
-use Rattle.grid.specs.Loop.{upto}
 use Rattle.grid.specs.LoopLaws.{upto_keeps, upto_both}
 use Rattle.grid.specs.Real.{Vec, at, zero64, one64, ◌⊕◌, ◌⊖◌, ◌⊗◌, ◌⊘◌}
 use Rattle.grid.specs.Cell.{at2, put2}

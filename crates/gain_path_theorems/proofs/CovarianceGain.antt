@@ -1,5 +1,5 @@
 -- **covariance_gain**: `covariance` of samples and of 2 ^ k times them. Laws only.
-use Rattle.std.specs.Prelude.{◌≡◌, Bool, true, false, cond, List, [], ◌∷◌, ◌++◌, map, ltb, ℤ, neg_ℤ, ◌-ℤ◌, Float, length, get_or, take, drop}
+use Rattle.std.specs.Prelude.{◌≡◌, Bool, true, false, cond, List, [], ◌∷◌, ◌++◌, map, ltb, ℤ, neg_ℤ, ◌-ℤ◌, Float, length, get_or, drop}
 use Rattle.std.proofs.Math.Path.{refl, sym, ap, ap₂}
 use Rattle.std.proofs.Common.{◌∙◌, subst, subst₂, true≢false, inl, inr, pow-add, pow_pos, get_or-take, get_or-drop}
 use Rattle.std.proofs.lemmas.List.{map-append, length-map}
@@ -10,7 +10,7 @@ use borrow.Author.Tests.{ltb-true, ltb-false, lt-ltb, eqb-false}
 use Rattle.std.proofs.Math.IntN.{pos, nat_abs, ◌+ℤ◌, ◌*ℤ◌, *ℤ-zero}
 use Rattle.std.specs.Float.Ieee.{binary64, of_int}
 use Rattle.std.proofs.Math.ListN.{get_or-map}
-use Rattle.grid.specs.Loop.{upto, first, seek}
+use Rattle.grid.specs.Loop.{first, seek}
 use Rattle.grid.specs.LoopLaws.{upto_keeps}
 use Rattle.grid.specs.Real.{Vec}
 use Rattle.grid.specs.Table.{table}

@@ -1,5 +1,5 @@
 -- **Gain does not move the eigenvectors** (`gain_keeps_eigenvectors`): two calls of `symmetric_eigen`, of a matrix and of 2 ^ k times it, k of either sign. Laws only.
-use Rattle.std.specs.Prelude.{◌≡◌, refl, Bool, true, false, cond, not, ◌++◌, map, ◌⊎◌, ℕ, suc, ◌+◌, ◌*◌, ◌-◌, ◌/◌, ◌%◌, ◌≤◌, ◌<◌, ltb, leb, eqb, ℤ, pos, negsuc, Float}
+use Rattle.std.specs.Prelude.{◌≡◌, refl, Bool, true, false, cond, not, ◌++◌, map, ◌⊎◌, ℕ, suc, ◌+◌, ◌*◌, ◌-◌, ◌/◌, ◌%◌, ◌≤◌, ◌<◌, ltb, leb, eqb, ℤ, pos, negsuc, Float, is_some}
 use Rattle.std.proofs.Common.{sym, ap, ap₂, ◌∙◌, subst, subst₂, true≢false, inl, inr, ⊎_elim, arith, ltb-true, ltb-false, eqb-true, eq-eqb, ne_eqb, length-append, get_or-append-add}
 use Rattle.std.proofs.lemmas.Bool.{eqb-false}
 use Rattle.std.specs.Float.{nan}
@@ -9,7 +9,7 @@ use Rattle.grid.specs.Real.{Vec, at, zero64, zeros}
 use Rattle.grid.specs.Table.{table}
 use Rattle.grid.specs.TableLaws.{length_table, at_table, zeros_table}
 use Rattle.leaves.specs.Leaf.{is_finite}
-use Rattle.leaves.specs.Scan.{is_bad, class_of, scan, place_of, lower_of, first_bad, first_bad_lower, by_rows}
+use Rattle.leaves.specs.Scan.{class_of, scan, place_of, lower_of, first_bad, first_bad_lower, by_rows}
 use Rattle.leaves.specs.ScanLaws.{lower_at}
 use Rattle.leaves.specs.FiniteLaws.{lower_finite}
 use Rattle.answers.specs.Answers.{refused, done, passed, refusal7, marked}
@@ -92,22 +92,22 @@ mark0_scaled k n (v, d, e) (v', d', e') r =
 
 -- ---- the run
 
-after_scaled : (k n limit edition : ℕ) (x x' : Vec × Vec × Vec) → Reduced k x x' → (is_bad (mark0 n x.0 x.1 x.2) ≡ false → Tql2Fine n limit edition x)
-    → (is_bad (mark0 n x'.0 x'.1 x'.2) ≡ false → Tql2Fine n limit edition x') → Ends k (after_tred n limit edition x) (after_tred n limit edition x')
+after_scaled : (k n limit edition : ℕ) (x x' : Vec × Vec × Vec) → Reduced k x x' → (is_some (mark0 n x.0 x.1 x.2) ≡ false → Tql2Fine n limit edition x)
+    → (is_some (mark0 n x'.0 x'.1 x'.2) ≡ false → Tql2Fine n limit edition x') → Ends k (after_tred n limit edition x) (after_tred n limit edition x')
 unfolding after_tred
-after_scaled k n limit edition (v, d, e) (v', d', e') r F F' = go (is_bad (mark0 n v d e)) refl
+after_scaled k n limit edition (v, d, e) (v', d', e') r F F' = go (is_some (mark0 n v d e)) refl
   where
     same : mark0 n v' d' e' ≡ mark0 n v d e
     same = mark0_scaled k n (v, d, e) (v', d', e') r
 
-    go : (b : Bool) → is_bad (mark0 n v d e) ≡ b
-        → Ends k (cond (is_bad (mark0 n v d e)) (marked 0 0 (mark0 n v d e), v, d, e) (tql2 n limit edition (v, d, e)))
-        (cond (is_bad (mark0 n v' d' e')) (marked 0 0 (mark0 n v' d' e'), v', d', e') (tql2 n limit edition (v', d', e')))
-    go true p = rw (ap is_bad same, p) (record { answers = ap (marked 0 0) same; v = r.v; d = r.d; e = r.e })
+    go : (b : Bool) → is_some (mark0 n v d e) ≡ b
+        → Ends k (cond (is_some (mark0 n v d e)) (marked 0 0 (mark0 n v d e), v, d, e) (tql2 n limit edition (v, d, e)))
+        (cond (is_some (mark0 n v' d' e')) (marked 0 0 (mark0 n v' d' e'), v', d', e') (tql2 n limit edition (v', d', e')))
+    go true p = rw (ap is_some same, p) (record { answers = ap (marked 0 0) same; v = r.v; d = r.d; e = r.e })
     go false p =
-        rw (ap is_bad same, p)
+        rw (ap is_some same, p)
         (subst (λ (w : Vec). Ends k (tql2 n limit edition (v, d, e)) (tql2 n limit edition (w, d', e'))) (sym r.v)
-        (tql2_scaled k n limit edition v d e d' e' r.d r.e (F p) (subst (λ (w : Vec). Tql2Fine n limit edition (w, d', e')) r.v (F' (ap is_bad same ∙ p)))))
+        (tql2_scaled k n limit edition v d e d' e' r.d r.e (F p) (subst (λ (w : Vec). Tql2Fine n limit edition (w, d', e')) r.v (F' (ap is_some same ∙ p)))))
 
 -- where a run is done it has n values
 gives_long : (n limit edition : ℕ) (x : Vec × Vec × Vec) (o : Answer × Vec × Vec × Vec) → length x.0 ≡ n * n → length x.1 ≡ n → RunGives n limit edition x o → o.0.answer ≡ 0
@@ -122,7 +122,7 @@ gives_long n limit edition x o s l (at_limit h r t) z = absurd (omega arith)
 
 after_long : (n limit edition : ℕ) (a : Vec) → 0 < n → passed (after_tred n limit edition (reduced n a)).0 ≡ true → length (after_tred n limit edition (reduced n a)).2 ≡ n
 unfolding after_tred
-after_long n limit edition a s = go (is_bad (mark0 n x.0 x.1 x.2))
+after_long n limit edition a s = go (is_some (mark0 n x.0 x.1 x.2))
   where
     x : Vec × Vec × Vec
     x = reduced n a

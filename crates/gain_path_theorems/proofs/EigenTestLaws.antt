@@ -1,12 +1,11 @@
 -- A run that passes the test is one that `gain_keeps_eigenvectors` asks for. Laws only.
-use Rattle.std.specs.Prelude.{false, [], ◌∷◌, ℕ, zero, suc, ◌+◌, ◌-◌, T, Float}
+use Rattle.std.specs.Prelude.{false, [], ◌∷◌, ℕ, zero, suc, ◌+◌, ◌-◌, T, Float, is_some}
 use Rattle.std.specs.Float.{binary64}
 use Rattle.std.specs.Float.Ieee.{fits, eq}
 use Rattle.std.specs.Float.Ieee.Fits.{nan-fits, and_l, and_r}
 use Rattle.grid.specs.Real.{Vec, at, zero64, zeros, ◌⊕◌, ◌⊗◌, ◌⊘◌}
 use Rattle.grid.specs.Cell.{at2, put2}
 use Rattle.leaves.specs.Leaf.{magnitude}
-use Rattle.leaves.specs.Scan.{is_bad}
 use Rattle.eigen_tred2_definition.specs.Tred2.{scale_of, householder, copy_last}
 use Rattle.eigen_tred2_definition.specs.Tred2Steps.{scale_step, similar_step, similarity_step, over_hStep, lessen_step, update_step, updates_step}
 use Rattle.eigen_symmetric_eigen.specs.Layout.{columns}
@@ -103,5 +102,5 @@ run_test_lem n limit edition matrix t =
     let b = downs_test fine false n (n - 1) (v, copy_last n v (zeros n), zeros n) in
     record {
       reduces = of_downs n (n - 1) (v, copy_last n v (zeros n), zeros n) (and_l b _ t);
-      iterates = λ z. tql2_test_lem n limit edition y (or_r (is_bad (mark0 n y.0 y.1 y.2)) _ (and_r b _ t) z);
+      iterates = λ z. tql2_test_lem n limit edition y (or_r (is_some (mark0 n y.0 y.1 y.2)) _ (and_r b _ t) z);
     }

@@ -1,27 +1,25 @@
 -- One QL pass of `tql2` in two runs whose d and e differ by 2 ^ k: c, s and v are the same, and d and e differ by 2 ^ k again (`pass_scaled`). Laws only.
-use Rattle.std.specs.Prelude.{◌≡◌, refl, Bool, true, false, cond, ◌++◌, T, ltb, pos, Float, set}
-use Rattle.std.proofs.Common.{sym, ap, ap₂, ◌∙◌, subst, subst₂, ltb-true, ltb-false}
+use Rattle.std.specs.Prelude.{◌≡◌, refl, Bool, true, false, cond, ◌++◌, T, ltb, Float, set}
+use Rattle.std.proofs.Common.{sym, ap, ap₂, ◌∙◌, subst₂, ltb-true, ltb-false}
 use Prim.Native.Nat.{ℕ, zero, suc, ◌+◌, ◌-◌, ◌≤◌, ◌<◌}
 use native.Mathlib.Omega.{arith}
-use Rattle.std.specs.Float.{binary64}
-use Rattle.std.specs.Float.Ieee.{neg, lt, fits}
+use Rattle.std.specs.Float.Ieee.{neg}
 use Rattle.grid.specs.Loop.{upto, times, fall, drops}
-use Rattle.grid.specs.Real.{Vec, at, zero64, one64, two64, epsilon, ◌⊕◌, ◌⊖◌, ◌⊗◌, ◌⊘◌}
+use Rattle.grid.specs.Real.{Vec, at, one64, two64, epsilon, ◌⊕◌, ◌⊖◌, ◌⊗◌, ◌⊘◌}
 use Rattle.leaves.specs.Leaf.{magnitude}
 use Rattle.leaves.specs.Scan.{first_bad}
 use Rattle.hypot.specs.Edition.{pythag}
 use Rattle.eigen_tql2_pass.specs.declared.ql_transformation.Spin.{Spin}
 use Rattle.eigen_tql2_pass.specs.declared.Run.{Run}
-use Rattle.eigen_tql2_pass.specs.declared.Reason.{Reason}
 use Rattle.eigen_tql2_pass.specs.Transform.{signed, shift, lessened, rotated, spin, spins, still, landed, transformed}
 use Rattle.eigen_tql2_pass.specs.TransformSteps.{less_step}
-use Rattle.eigen_tql2_pass.specs.Pass.{tiny, mark1, settled, judged, verdict, after_pass, pass, going, converged}
-use Rattle.svd_gain_theorems.specs.Scale.{fine, Product, Quotient}
+use Rattle.eigen_tql2_pass.specs.Pass.{tiny, mark1, settled, judged, verdict, Reason, after_pass, pass, going, converged}
+use Rattle.svd_gain_theorems.specs.Scale.{fine, Product}
 use Rattle.svd_gain_theorems.specs.Along.{Along}
 use Rattle.svd_gain_theorems.specs.AlongLaws.{along_both}
 use Rattle.svd_gain_theorems.specs.Found.{match, bad_same, both_same}
-use Rattle.gain_path_theorems.specs.PassFine.{Drops, Falls, shift_q, ShiftFine, spin_r, spin_s, spin_c, spin_sum, SpinFine, SpinAt, landed_p, LandFine, shift_h, shifted, leveled, turning, turned, TransformFine, PassFine}
-use Rattle.gain_path_theorems.specs.Numbers.{Number, Doubles, Pair, add_n, sub_n, mul_n, mul_l, mul_two, div_eq, div_l, div_two, le_n, magnitude_n, pair_set, pair_at}
+use Rattle.gain_path_theorems.specs.PassFine.{Drops, Falls, shift_q, ShiftFine, spin_r, spin_s, spin_c, SpinAt, landed_p, LandFine, shift_h, shifted, leveled, turning, turned, TransformFine, PassFine}
+use Rattle.gain_path_theorems.specs.Numbers.{Number, Pair, add_n, sub_n, mul_n, mul_l, mul_two, div_eq, div_l, div_two, le_n, magnitude_n, pair_set, pair_at}
 use Rattle.gain_path_theorems.proofs.HypotNumbers.{hypot_n}
 
 -- ---- loops

@@ -1,13 +1,13 @@
 -- The reduction of `tred2` in two runs whose matrices differ by 2 ^ k: which cell of v and which element of d carries the gain before each turn (`Before`), and that each turn keeps it. Laws only.
-use Rattle.std.specs.Prelude.{◌≡◌, Bool, true, false, cond, ltb, set}
+use Rattle.std.specs.Prelude.{◌≡◌, Bool, true, false, ltb, set}
 use Rattle.std.proofs.Math.Path.{refl, ap₂}
-use Rattle.std.proofs.Common.{sym, ap, ◌∙◌, subst, subst₂, le_antisymm, ltb-true, ltb-false}
+use Rattle.std.proofs.Common.{sym, ap, ◌∙◌, subst, le_antisymm, ltb-true, ltb-false}
 use Prim.Native.Nat.{ℕ, zero, suc, ◌+◌, ◌-◌, ◌≤◌, ◌<◌}
 use native.Mathlib.Omega.{arith}
 use Rattle.std.proofs.Math.Dec.{T}
 use Rattle.std.specs.Float.Ieee.{Float, binary64, fits, eq}
 use Rattle.std.specs.Float.Ieee.Fits.{div-fits, sub-fits}
-use Rattle.grid.specs.Loop.{upto, down}
+use Rattle.grid.specs.Loop.{down}
 use Rattle.grid.specs.LoopLaws.{upto_keeps, upto_both}
 use Rattle.grid.specs.Real.{Vec, at, zero64, ◌⊕◌, ◌⊖◌, ◌⊗◌, ◌⊘◌}
 use Rattle.grid.specs.Cell.{at2, put2}

@@ -1,5 +1,6 @@
 -- **tql2_gain**: `tql2` of d and e and of 2 ^ k times them, with the same v. Laws only.
-use Rattle.std.specs.Prelude.{◌≡◌, Bool, true, false, not, ◌++◌, map, ℕ, zero, suc, ◌+◌, ◌-◌, ◌≤◌, ◌<◌, T, ltb, eqb, pos, Float, set}
+use Rattle.leaves.specs.declared.Bad.{Bad}
+use Rattle.std.specs.Prelude.{◌≡◌, Bool, true, false, not, ◌++◌, map, ℕ, zero, suc, ◌+◌, ◌-◌, ◌≤◌, ◌<◌, T, ltb, eqb, pos, Float, set, Option, is_some}
 use Rattle.std.proofs.Math.Path.{refl, ap}
 use Rattle.std.proofs.Common.{sym, ap₂, ◌∙◌, subst, arith, ltb-true, ltb-false, eqb-true, ext_get_or}
 use Rattle.std.proofs.Math.Bool.{cond}
@@ -10,8 +11,7 @@ use Rattle.grid.specs.Loop.{upto, first, seek, rounds}
 use Rattle.grid.specs.LoopLaws.{upto_keeps}
 use Rattle.grid.specs.Real.{Vec, at, zero64, ◌⊕◌}
 use Rattle.leaves.specs.Leaf.{magnitude, larger}
-use Rattle.leaves.specs.Scan.{first_bad, by_rows, is_bad}
-use Rattle.leaves.specs.declared.Bad.{Bad}
+use Rattle.leaves.specs.Scan.{first_bad, by_rows}
 use Rattle.answers.specs.Answers.{done, answered, marked}
 use Rattle.answers.specs.declared.Answer.{Answer}
 use Rattle.eigen_tql2_pass.specs.Pass.{tiny, going, converged, limit_used, pass}
@@ -221,12 +221,12 @@ pub record Ends (k : ℕ) (x x' : Answer × Vec × Vec × Vec) : Type 0 where
 
 finished_scaled : (k n : ℕ) (x x' : State) → States k x x' → Ends k (ql_finished n x) (ql_finished n x')
 unfolding ql_finished mark2
-finished_scaled k n (r, v, d, e) (r', v', d', e') h = go (eqb r.stop limit_used) refl (eqb r.stop going) refl (is_bad (mark d v)) refl
+finished_scaled k n (r, v, d, e) (r', v', d', e') h = go (eqb r.stop limit_used) refl (eqb r.stop going) refl (is_some (mark d v)) refl
   where
     R : Runs k r r'
     R = h.run
 
-    mark : Vec → Vec → Bad
+    mark : Vec → Vec → Option Bad
     mark d v = first_bad (d ++ by_rows n v)
 
     seen : mark d' v' ≡ mark d v
@@ -240,8 +240,8 @@ finished_scaled k n (r, v, d, e) (r', v', d', e') h = go (eqb r.stop limit_used)
     two : eqb r'.stop going ≡ eqb r.stop going
     two = ap (λ (s : ℕ). eqb s going) R.stop
 
-    three : is_bad (mark d' v') ≡ is_bad (mark d v)
-    three = ap is_bad seen
+    three : is_some (mark d' v') ≡ is_some (mark d v)
+    three = ap is_some seen
 
     s : Sorts k (sorted n (v, d)) (sorted n (v', d'))
     s = sorted_scaled k n (v, d) (v', d') (record { v = h.v; d = h.d })
@@ -250,9 +250,9 @@ finished_scaled k n (r, v, d, e) (r', v', d', e') h = go (eqb r.stop limit_used)
     end r v d e =
         cond (eqb r.stop limit_used) (answered 9 r.l 0 r.count, v, d, e)
         (cond (not (eqb r.stop going)) (answered r.stop 1 r.index r.count, v, d, e)
-        (cond (is_bad (mark d v)) (marked 2 r.count (mark d v), v, d, e) (done r.count, (sorted n (v, d)).0, (sorted n (v, d)).1, e)))
+        (cond (is_some (mark d v)) (marked 2 r.count (mark d v), v, d, e) (done r.count, (sorted n (v, d)).0, (sorted n (v, d)).1, e)))
 
-    go : (a : Bool) → eqb r.stop limit_used ≡ a → (b : Bool) → eqb r.stop going ≡ b → (c : Bool) → is_bad (mark d v) ≡ c → Ends k (end r v d e) (end r' v' d' e')
+    go : (a : Bool) → eqb r.stop limit_used ≡ a → (b : Bool) → eqb r.stop going ≡ b → (c : Bool) → is_some (mark d v) ≡ c → Ends k (end r v d e) (end r' v' d' e')
     go true p b q c t =
         rw (one, p) (record { answers = ap₂ (λ (l m : ℕ). answered 9 l 0 m) R.l R.count; v = h.v; d = h.d; e = h.e })
     go false p false q c t =

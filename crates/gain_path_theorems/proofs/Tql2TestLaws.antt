@@ -17,7 +17,7 @@ use Rattle.svd_gain_theorems.proofs.TestLaws.{or_r, of_product, of_along, of_rou
 use Rattle.gain_path_theorems.specs.HypotFine.{HypotFine}
 use Rattle.gain_path_theorems.specs.PassFine.{Drops, ShiftFine, SpinFine, SpinAt, LandFine, shift_h, shifted, TransformFine, PassFine}
 use Rattle.gain_path_theorems.specs.Tql2Fine.{at_l, passed, StageFine, TurnFine, Tql2Fine}
-use Rattle.gain_path_theorems.specs.Tql2Test.{all_of, product, quotient, hypot_test, shift_tests, spin_tests, land_tests, drops_test, transform_tests, pass_tests, stage_tests, tql2_test}
+use Rattle.gain_path_theorems.specs.Tql2Test.{all_of, quotient, hypot_test, shift_tests, spin_tests, land_tests, drops_test, transform_tests, pass_tests, stage_tests, tql2_test}
 
 is : (b : Bool) → T b → b ≡ true
 is true t = refl

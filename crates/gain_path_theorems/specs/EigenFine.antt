@@ -1,8 +1,7 @@
 -- What is asked of a call of `symmetric_eigen`, and what is said of two, of a matrix and of 2 ^ k times it: x and y are what they came back with. Definitions only.
 -- What is asked follows the run: the reduction (`Tred2Fine`), and from what it leaves the iteration (`Tql2Fine`). What a run does not come to is not asked of.
-use Rattle.std.specs.Prelude.{◌≡◌, false, ◌⊎◌, map, ℕ, ◌+◌, ◌*◌, ◌<◌, ℤ, take, drop}
+use Rattle.std.specs.Prelude.{◌≡◌, false, ◌⊎◌, map, ℕ, ◌+◌, ◌*◌, ◌<◌, ℤ, take, drop, is_some}
 use Rattle.grid.specs.Real.{Vec, zeros}
-use Rattle.leaves.specs.Scan.{is_bad}
 use Rattle.eigen_symmetric_eigen.specs.Layout.{columns}
 use Rattle.eigen_symmetric_eigen.specs.AfterTred2.{mark0}
 use Rattle.eigen_theorems.specs.Outcome.{Outcome, Taken, reduced}
@@ -13,7 +12,7 @@ use Rattle.gain_path_theorems.specs.Tql2Fine.{Tql2Fine}
 -- the run of a matrix, `decomposed`: `tred2` of its columns, and `tql2` where mark 0 lets it go on
 pub record RunFine (n limit edition : ℕ) (matrix : Vec) : Type 0 where
   pub reduces : Tred2Fine n (columns n matrix, zeros n, zeros n)
-  pub iterates : is_bad (mark0 n (reduced n matrix).0 (reduced n matrix).1 (reduced n matrix).2) ≡ false → Tql2Fine n limit edition (reduced n matrix)
+  pub iterates : is_some (mark0 n (reduced n matrix).0 (reduced n matrix).1 (reduced n matrix).2) ≡ false → Tql2Fine n limit edition (reduced n matrix)
 
 -- the call: where it passes checks 1, 2, 12, 6 and 7, its run
 abbrev pub EigenFine : (n limit edition : ℕ) (matrix work result : Vec) → Type 0

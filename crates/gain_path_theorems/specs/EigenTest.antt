@@ -1,11 +1,10 @@
 -- What `gain_keeps_eigenvectors` asks of a run, as a test that can be computed: of `tred2`, and of `tql2` behind it (`Tql2Test`, which says what ok and lost are). Definitions only.
-use Rattle.std.specs.Prelude.{Bool, true, ◌&&◌, ◌||◌, List, [], ◌∷◌, ℕ, zero, suc, ◌+◌, ◌-◌, Float}
+use Rattle.std.specs.Prelude.{Bool, true, ◌&&◌, ◌||◌, List, [], ◌∷◌, ℕ, zero, suc, ◌+◌, ◌-◌, Float, is_some}
 use Rattle.std.specs.Float.{binary64}
 use Rattle.std.specs.Float.Ieee.{fits, eq}
 use Rattle.grid.specs.Real.{Vec, at, zero64, zeros, ◌⊕◌, ◌⊖◌, ◌⊗◌, ◌⊘◌}
 use Rattle.grid.specs.Cell.{at2, put2}
 use Rattle.leaves.specs.Leaf.{magnitude}
-use Rattle.leaves.specs.Scan.{is_bad}
 use Rattle.eigen_tred2_definition.specs.Tred2.{scale_of, householder, copy_last}
 use Rattle.eigen_tred2_definition.specs.Tred2Steps.{scale_step, similar_step, similarity_step, over_hStep, lessen_step, update_step, updates_step}
 use Rattle.eigen_symmetric_eigen.specs.Layout.{columns}
@@ -78,4 +77,4 @@ module _ (ok : Float → Bool) (lost : Bool) where
   run_test n limit edition matrix =
       let x : Vec × Vec × Vec = (columns n matrix, zeros n, zeros n) in
       let y = reduced n matrix in
-      downs_test n (n - 1) (x.0, copy_last n x.0 x.1, x.2) && (is_bad (mark0 n y.0 y.1 y.2) || tql2_test ok lost n limit edition y)
+      downs_test n (n - 1) (x.0, copy_last n x.0 x.1, x.2) && (is_some (mark0 n y.0 y.1 y.2) || tql2_test ok lost n limit edition y)

@@ -1,7 +1,7 @@
 -- hypot of two numbers times 2 ^ k is 2 ^ k times their hypot, in both editions (`pythag_scaled`). Laws only.
 -- Edition 2 rounds a whole root, and is exact where that is the root: so is it of the numbers times 2 ^ k, and only then.
-use Rattle.std.specs.Prelude.{◌≡◌, refl, Bool, true, false, cond, ◌||◌, ℕ, zero, suc, ◌+◌, ◌-◌, ◌*◌, ◌/◌, ◌%◌, ◌^◌, ◌≤◌, ◌<◌, T, eqb, ℤ, pos, Float}
-use Rattle.std.proofs.Common.{sym, ap, ap₂, ◌∙◌, subst, subst₂, true≢false, add-zero, add-mul, mul-one, mul-zero, zero-mul, mul_assoc, mul_comm, mul_left_comm, mul-pos, mul-le-mul_left, mul-le-mul_right, le_antisymm, lt_of_le_of_lt, arith, eqb-true, eq-eqb, lit≤, pow-add, pow_pos}
+use Rattle.std.specs.Prelude.{◌≡◌, refl, Bool, true, false, cond, ◌||◌, ℕ, zero, suc, ◌+◌, ◌*◌, ◌/◌, ◌%◌, ◌^◌, ◌≤◌, ◌<◌, T, eqb, ℤ, pos, Float}
+use Rattle.std.proofs.Common.{sym, ap, ap₂, ◌∙◌, subst, subst₂, add-zero, add-mul, mul-one, zero-mul, mul_assoc, mul_left_comm, mul-pos, mul-le-mul_left, mul-le-mul_right, le_antisymm, lt_of_le_of_lt, arith, eqb-true, lit≤, pow-add, pow_pos}
 use Rattle.std.proofs.lemmas.Bool.{eqb-false}
 use Rattle.std.specs.Float.{nan, inf, fin, binary64}
 use Rattle.std.specs.Float.Ieee.{up, down, size, round, fits, lt, eq}
@@ -20,7 +20,7 @@ use Rattle.hypot.specs.Rounds.{in_reach}
 use Rattle.svd_gain_theorems.specs.Scale.{moved, scale, is_zero, fine, Scaled, Product}
 use Rattle.svd_gain_theorems.specs.ScaleLaws.{moved_val, scale_none}
 use Rattle.svd_gain_theorems.proofs.Round.{fine_finite, units_normal, round_zero, round_some, round_scaled_at}
-use Rattle.svd_gain_theorems.specs.Compare.{lt_scaled, eq_scaled, magnitude_scaled, zero_scaled}
+use Rattle.svd_gain_theorems.specs.Compare.{lt_scaled, eq_scaled, magnitude_scaled}
 use Rattle.svd_gain_theorems.proofs.Ops.{fits_low, units_of, mul_scaled, div_same}
 use Rattle.svd_gain_theorems.proofs.RootScaled.{whole_scale, middle_scaled, whole_part, units_scaled, units_high, root_low, fits_high}
 use Rattle.svd_gain_theorems.proofs.Turn.{zero_is, zero_fits}

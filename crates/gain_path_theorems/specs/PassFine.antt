@@ -3,8 +3,7 @@
 -- finite and above 2 ^ -1022 in magnitude (`fine`), and a product, a quotient or a hypot is zero only where it must be (`Product`, `Quotient`, `HypotFine`). Not asked, since it
 -- carries no power: the shift's p and q, c and s, and the turning of v.
 use Rattle.std.specs.Prelude.{ℕ, zero, suc, ◌+◌, ◌-◌, T, Float}
-use Rattle.std.specs.Float.{binary64}
-use Rattle.std.specs.Float.Ieee.{neg, fits}
+use Rattle.std.specs.Float.Ieee.{neg}
 use Rattle.grid.specs.Real.{Vec, at, one64, two64, epsilon, ◌⊕◌, ◌⊖◌, ◌⊗◌, ◌⊘◌}
 use Rattle.hypot.specs.Edition.{pythag}
 use Rattle.eigen_tql2_pass.specs.declared.ql_transformation.Spin.{Spin}

@@ -1,17 +1,15 @@
 -- Places of two vectors, and cells of two matrices, that carry a power of the gain: of those of which P holds number j of the second is 2 ^ k times number j of the first. Laws only.
-use Rattle.std.specs.Prelude.{◌≡◌, refl, Bool, true, false, ◌&&◌, ℕ, ◌+◌, ◌*◌, ◌≤◌, ◌<◌, T, ltb, eqb, Float, length, set}
-use Rattle.std.proofs.Common.{sym, ap, ◌∙◌, subst, subst₂, arith, ltb-true, ltb-false, eqb-true, length-set, get_or-set_same, get_or-set_other}
-use Rattle.std.proofs.Math.Decide.{ℕ_discrete}
+use Rattle.std.specs.Prelude.{◌≡◌, refl, Bool, true, false, ℕ, ◌+◌, ◌*◌, ◌≤◌, ◌<◌, ltb, eqb, Float, length, set}
+use Rattle.std.proofs.Common.{sym, ◌∙◌, subst, subst₂, arith, ltb-true, ltb-false, eqb-true, length-set, get_or-set_same, get_or-set_other}
 use Rattle.std.proofs.lemmas.Bool.{eqb-false}
 use Rattle.std.specs.Float.{nan, binary64}
-use Rattle.std.specs.Float.Ieee.{fits}
 use Rattle.std.specs.Float.Ieee.Fits.{nan-fits}
 use Rattle.std.proofs.Math.ListN.{get_or-eq_default}
-use Rattle.grid.specs.Real.{Vec, at, zero64}
+use Rattle.grid.specs.Real.{Vec, at}
 use Rattle.grid.specs.Cell.{at2, put2}
 use Rattle.grid.specs.CellLaws.{one_place}
-use Rattle.svd_gain_theorems.specs.Scale.{scale, Scaled}
-use Rattle.gain_path_theorems.specs.Numbers.{Number, zero_n}
+use Rattle.svd_gain_theorems.specs.Scale.{scale}
+use Rattle.gain_path_theorems.specs.Numbers.{Number}
 
 pub record Places (k : ℕ) (P : ℕ → Type 0) (d d' : Vec) : Type 0 where
   pub long : length d' ≡ length d

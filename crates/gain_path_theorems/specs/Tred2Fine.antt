@@ -6,7 +6,7 @@ use Rattle.grid.specs.Real.{Vec, at, zero64, ◌⊕◌, ◌⊖◌, ◌⊗◌, �
 use Rattle.grid.specs.Cell.{at2, put2}
 use Rattle.root.specs.Root.{root}
 use Rattle.leaves.specs.Leaf.{magnitude}
-use Rattle.eigen_tred2_definition.specs.Tred2.{scale_of, over_scale, against, generate, similarity, over_h, lessen, updates, householder, copy_last}
+use Rattle.eigen_tred2_definition.specs.Tred2.{scale_of, over_scale, against, generate, similarity, over_h, lessen, householder, copy_last}
 use Rattle.eigen_tred2_definition.specs.Tred2Steps.{scale_step, similar_step, similarity_step, over_hStep, lessen_step, update_step, updates_step}
 use Rattle.svd_gain_theorems.specs.Scale.{fine, Product, Quotient}
 use Rattle.svd_gain_theorems.specs.Along.{Along}

@@ -1,6 +1,6 @@
 -- Whole numbers with a sign, times a number that has none; and such a number as a double. Laws only.
-use Rattle.std.specs.Prelude.{◌≡◌, refl, Bool, true, false, ◌||◌, ℕ, zero, suc, ◌+◌, ◌*◌, ◌^◌, ◌≤◌, ◌<◌, T, ltb, eqb, ℤ, pos, negsuc, nat_abs, neg_ℤ, ◌+ℤ◌, ◌-ℤ◌, ◌*ℤ◌, Float}
-use Rattle.std.proofs.Common.{sym, ap, ap₂, ◌∙◌, subst, mul-one, mul_assoc, mul_comm, mul_left_comm, mul-pos, le_trans, mul-le-mul_right, zero-mul, one-mul, pow-suc, arith, lt→ltb, lit<, pow-add, pow_pos}
+use Rattle.std.specs.Prelude.{◌≡◌, refl, Bool, true, false, ◌||◌, ℕ, zero, suc, ◌+◌, ◌*◌, ◌^◌, ◌≤◌, ◌<◌, T, ltb, eqb, ℤ, pos, negsuc, nat_abs, neg_ℤ, ◌+ℤ◌, ◌*ℤ◌, Float}
+use Rattle.std.proofs.Common.{sym, ap, ap₂, ◌∙◌, subst, mul-one, mul_assoc, mul_comm, mul-pos, mul-le-mul_right, one-mul, pow-suc, arith, lt→ltb, lit<, pow-add, pow_pos}
 use Rattle.std.proofs.Math.Nat.{mul-lt-mul_of_pos_left}
 use Rattle.std.proofs.Math.IntN.{zero-*ℤ, suc_ℤ-*ℤ, *ℤ_comm, +ℤ_assoc, +ℤ_comm, neg_ℤ-+ℤ, neg_ℤ-neg_ℤ}
 use Rattle.std.specs.Float.{nan, inf, fin, binary64}
@@ -9,7 +9,7 @@ use Rattle.std.specs.Float.Ieee.Exact.{HasValue}
 use Rattle.std.specs.Float.Ieee.Fits.{down_pos}
 use Rattle.std.specs.Float.Ieee.Back.{round_whole}
 use Rattle.std.specs.Float.Ieee.Scale.{finite}
-use Rattle.svd_gain_theorems.specs.Scale.{scale, is_zero, fine}
+use Rattle.svd_gain_theorems.specs.Scale.{scale, fine}
 use Rattle.svd_gain_theorems.proofs.Round.{round_scaled_at, round_zero, round_some}
 
 -- ---- sums and products

@@ -6,7 +6,7 @@ pub mod normalise; // A column over its norm, stored; or the refusal where that 
 ghost use Rattle.std.specs.Prelude.{◌≡◌, ◌*◌, ◌<◌, ◌≤◌, length};
 ghost use Rattle.gram_schmidt.specs.Gram.{column_of, dot, lessened, less_columns, less_columns_twice, norm};
 
-use grid::{at1, entry, put1};
+use grid::entry;
 use root::root;
 
 // Column j of q.
@@ -15,27 +15,28 @@ pub fn column_of(m: usize, k: usize, q: &[f64], j: usize, c: &mut [f64])
     ensures { c.new ≡ column_of m k q.now j }
 {
     for row in 0..m {
-        put1(c, row, entry(q, m, k, row, j));
+        c[row] = entry(q, m, k, row, j);
     }
 }
 
-pub fn dot(m: usize, b: &[f64], c: &[f64]) -> f64
-    requires { (length b.now ≡ m) × (length c.now ≡ m) }
-    ensures { result ≡ dot m b.now c.now }
+pub fn dot(b: &[f64], c: &[f64]) -> f64
+    requires { length b.now ≡ length c.now }
+    ensures { result ≡ dot (length c.now) b.now c.now }
 {
     let mut acc = 0.0;
-    for row in 0..m {
-        acc = acc + at1(b, row) * at1(c, row);
+    for (x, y) in b.iter().zip(c) {
+        acc += x * y;
     }
     acc
 }
 
-fn lessen(m: usize, proj: f64, b: &[f64], c: &mut [f64])
-    requires { (length b.now ≡ m) × (length c.old ≡ m) }
-    ensures { c.new ≡ lessened m proj b.now c.old }
+fn lessen(proj: f64, b: &[f64], c: &mut [f64])
+    requires { length b.now ≡ length c.old }
+    ensures { c.new ≡ lessened (length c.old) proj b.now c.old }
 {
-    for row in 0..m {
-        put1(c, row, at1(c, row) - proj * at1(b, row));
+    // By index: the invariant of a loop over `iter_mut().zip(b)` has no name for what is stored so far.
+    for row in 0..c.len() {
+        c[row] -= proj * b[row];
     }
 }
 
@@ -46,8 +47,8 @@ fn less_columns(m: usize, k: usize, j: usize, q: &[f64], b: &mut [f64], c: &mut 
 {
     for i in 0..j {
         column_of(m, k, q, i, b);
-        let proj = dot(m, b, c);
-        lessen(m, proj, b, c);
+        let proj = dot(b, c);
+        lessen(proj, b, c);
     }
 }
 
@@ -61,9 +62,8 @@ pub fn less_columns_twice(m: usize, k: usize, j: usize, q: &[f64], b: &mut [f64]
     }
 }
 
-pub fn norm(m: usize, c: &[f64]) -> f64
-    requires { length c.now ≡ m }
-    ensures { result ≡ norm m c.now }
+pub fn norm(c: &[f64]) -> f64
+    ensures { result ≡ norm (length c.now) c.now }
 {
-    root(dot(m, c, c))
+    root(dot(c, c))
 }

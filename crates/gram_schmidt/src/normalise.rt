@@ -3,24 +3,22 @@ ghost use Rattle.std.specs.Prelude.{◌≡◌, ◌*◌, ◌<◌, length};
 ghost use Rattle.gram_schmidt.specs.Unit.{over, normalised, put_column, finished};
 
 use answers::{Answer, answered, done, refuse};
-use grid::{EPSILON, at1, fill, put_entry, put1};
+use grid::{EPSILON, fill, put_entry};
 use leaves::{class_of, is_finite};
 
-pub fn over(m: usize, by: f64, c: &mut [f64])
-    requires { length c.old ≡ m }
-    ensures { c.new ≡ over m by c.old }
+pub fn over(by: f64, c: &mut [f64])
+    ensures { c.new ≡ over (length c.old) by c.old }
 {
-    for row in 0..m {
-        put1(c, row, at1(c, row) / by);
+    for x in c.iter_mut() {
+        *x /= by;
     }
 }
 
-fn normalise(m: usize, by: f64, c: &mut [f64])
-    requires { length c.old ≡ m }
-    ensures { c.new ≡ normalised m by c.old }
+fn normalise(by: f64, c: &mut [f64])
+    ensures { c.new ≡ normalised (length c.old) by c.old }
 {
     if by > EPSILON {
-        over(m, by, c);
+        over(by, c);
     } else {
         fill(c);
     }
@@ -31,7 +29,7 @@ fn put_column(m: usize, k: usize, j: usize, c: &[f64], q: &mut [f64])
     ensures { q.new ≡ put_column m k j c.now q.old }
 {
     for row in 0..m {
-        put_entry(q, m, k, row, j, at1(c, row));
+        put_entry(q, m, k, row, j, c[row]);
     }
 }
 
@@ -41,7 +39,7 @@ pub fn finish(m: usize, k: usize, j: usize, by: f64, c: &mut [f64], q: &mut [f64
     ensures { (result, q.new) ≡ finished m k j by c.old q.old }
 {
     if is_finite(by) {
-        normalise(m, by, c);
+        normalise(by, c);
         put_column(m, k, j, c, q);
         return done(0);
     }

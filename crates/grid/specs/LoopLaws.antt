@@ -186,6 +186,10 @@ module _ {S : Type 0} where
   pub upto_same : (f g : ℕ → S → S) (a b : ℕ) (s : S) → ((j : ℕ) (s : S) → a ≤ j → j < b → f j s ≡ g j s) → upto f a b s ≡ upto g a b s
   upto_same f g a b s h = upto_keeps (λ s t. s ≡ t) f g a b s s (λ j s t l m e. h j s l m ∙ ap (g j) e) refl
 
+  -- a loop taken up where it was left
+  pub joined : (f : ℕ → S → S) (a b c : ℕ) (s₀ : S) {s : S} → a ≤ b → b ≤ c → s ≡ upto f a b s₀ → upto f b c s ≡ upto f a c s₀
+  joined f a b c s₀ {s} h l e = upto_both (λ k u t. u ≡ upto f a k s₀) f f b c s s l (λ k u t p q r. more f a k s₀ (omega arith) r) e
+
   -- going down, from b to 1
   pub down_both : (R : ℕ → S → S → Type 0) (f g : ℕ → S → S) (b : ℕ) (s t : S)
       → ((i : ℕ) (s t : S) → i < b → R (suc i) s t → R i (f (suc i) s) (g (suc i) t)) → R b s t → R 0 (down f b s) (down g b t)

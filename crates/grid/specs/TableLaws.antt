@@ -1,6 +1,6 @@
 -- What a loop makes that stores every element once, whatever stood there before: a table, or rows. Laws only.
 use Rattle.std.specs.Prelude.{◌≡◌, refl, [], ◌∷◌, ◌++◌, ℕ, zero, suc, ◌+◌, ◌*◌, ◌-◌, ◌≤◌, ◌<◌, Float, length, take, drop, set}
-use Rattle.std.proofs.Common.{ap, sym, ◌∙◌, append-nil, ⊎_elim, add-one, le_antisymm, eq-or-lt_of_le, zero-mul, suc-mul, add-mul, mul-le-mul_right, arith, length-append, length-drop, drop_of_length-le, get_or-append-add, drop-cons, length-take-le, take_at}
+use Rattle.std.proofs.Common.{ap, append_assoc, add-zero, zero-add, take-append-drop, take_all, take-suc, sym, ◌∙◌, append-nil, ⊎_elim, add-one, le_antisymm, eq-or-lt_of_le, zero-mul, suc-mul, add-mul, mul-le-mul_right, arith, length-append, length-drop, drop_of_length-le, get_or-append-add, drop-cons, length-take-le, take_at}
 use Rattle.std.proofs.Math.Decide.{ℕ_discrete}
 use Rattle.std.specs.Float.{nan}
 use Rattle.std.proofs.lemmas.List.{replicate-append-replicate, get_or_at, set_at}
@@ -45,6 +45,15 @@ unfolding table
 table_same f g zero h = refl
 table_same f g (suc k) h = rw (table_same f g k (λ j l. h j (omega arith)), h k (omega arith))
 
+-- a vector is the table of its elements
+pub table_all : (d : Vec) (n : ℕ) → length d ≡ n → d ≡ table (at d) n
+unfolding table
+table_all d n h = sym (take_all n d (omega arith)) ∙ go n (omega arith)
+  where
+    go : (k : ℕ) → k ≤ length d → take k d ≡ table (at d) k
+    go zero l = refl
+    go (suc k) l = take-suc d k nan (omega arith) ∙ ap (λ (t : Vec). t ++ (at d k ∷ [])) (go k (omega arith))
+
 -- ---- the loop that stores a table: where it begins, one store more, and the whole
 
 pub table_none : (f : ℕ → Float) → ◌≡◌ {A = Vec} [] (table f 0)
@@ -60,19 +69,37 @@ table_done f d {k} {n} p q l e = all_of d k (omega arith) e ∙ ap (table f) (le
 
 -- ---- a loop that makes each element anew from what it was
 
--- what stands at k and above is as it was until turn k
-each_so_far : (g : ℕ → Float → Float) (d : Vec) (k : ℕ) → k ≤ length d
-    → upto (λ j e. set e j (g j (at e j))) 0 k d ≡ table (λ j. g j (at d j)) k ++ drop k d
+-- the k elements from c on: what stands before them and behind them is as it was
+pub each_from : (g : ℕ → Float → Float) (d : Vec) (c k : ℕ) → c + k ≤ length d
+    → upto (λ j e. set e j (g j (at e j))) c (c + k) d ≡ take c d ++ (table (λ j. g (c + j) (at d (c + j))) k ++ drop (c + k) d)
 unfolding table
-each_so_far g d zero h = upto_none _ 0 d
-each_so_far g d (suc k) h =
-    let f : ℕ → Float = λ j. g j (at d j) in
-    let e : upto (λ j e. set e j (g j (at e j))) 0 k d ≡ table f k ++ at d k ∷ drop (suc k) d =
-    each_so_far g d k (omega arith) ∙ ap (λ (l : Vec). table f k ++ l) (drop-cons d k nan (omega arith)) in
-    rw (← add-one k) (upto_more (λ j e. set e j (g j (at e j))) 0 k d (omega arith)
-    ∙ ap (λ (l : Vec). set l k (g k (at l k))) e
-    ∙ rw (get_or_at (table f k) (at d k) (drop (suc k) d) nan k (length_table f k), set_at (table f k) (at d k) (drop (suc k) d) (f k) k (length_table f k), add-one k)
-    (sym (append_snoc (table f k) (f k) (drop (suc k) d))))
+each_from g d c zero h =
+    rw (add-zero c) (upto_none _ c d ∙ sym (take-append-drop c d))
+each_from g d c (suc k) h =
+    let F : ℕ → Vec → Vec = λ j e. set e j (g j (at e j)) in
+    let f : ℕ → Float = λ j. g (c + j) (at d (c + j)) in
+    let P : Vec = take c d ++ table f k in
+    let long : length P ≡ c + k = length-append (take c d) (table f k) ∙ omega (arith, length-take-le c d (omega arith), length_table f k) in
+    let behind : Vec = drop (suc (c + k)) d in
+    let so_far : upto F c (c + k) d ≡ P ++ at d (c + k) ∷ behind =
+    each_from g d c k (omega arith) ∙ ap (λ (l : Vec). take c d ++ (table f k ++ l)) (drop-cons d (c + k) nan (omega arith)) ∙ sym (append_assoc (take c d) (table f k) (at d (c + k) ∷ behind)) in
+    let last : c + suc k ≡ c + k + 1 = omega arith in
+    let tail : suc (c + k) ≡ c + suc k = omega arith in
+    ap (λ (z : ℕ). upto F c z d) last
+    ∙ upto_more F c (c + k) d (omega arith)
+    ∙ ap (F (c + k)) so_far
+    ∙ rw (get_or_at P (at d (c + k)) behind nan (c + k) long) (set_at P (at d (c + k)) behind (f k) (c + k) long)
+    ∙ append_assoc (take c d) (table f k) (f k ∷ behind)
+    ∙ ap (λ (l : Vec). take c d ++ l) (sym (append_snoc (table f k) (f k) behind))
+    ∙ ap (λ (z : ℕ). take c d ++ (table f k ++ (f k ∷ []) ++ drop z d)) tail
+
+-- the first k
+pub each_so_far : (g : ℕ → Float → Float) (d : Vec) (k : ℕ) → k ≤ length d
+    → upto (λ j e. set e j (g j (at e j))) 0 k d ≡ table (λ j. g j (at d j)) k ++ drop k d
+each_so_far g d k h =
+    ap (λ (b : ℕ). upto (λ j e. set e j (g j (at e j))) 0 b d) (sym (zero-add k))
+    ∙ each_from g d 0 k (omega arith)
+    ∙ (λ i. table (λ j. g (zero-add j i) (at d (zero-add j i))) k ++ drop (zero-add k i) d)
 
 pub each : (g : ℕ → Float → Float) (d : Vec) (n : ℕ) → length d ≡ n → upto (λ j e. set e j (g j (at e j))) 0 n d ≡ table (λ j. g j (at d j)) n
 each g d n h =

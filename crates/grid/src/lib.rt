@@ -1,8 +1,8 @@
-// A vector and a matrix of f64, read and written by a call, so that each access asks one fact.
+// A matrix of f64, read and written by a call, so that each access asks one fact; and a vector's +0.0.
 #![tactic(auto)]
 
-ghost use Rattle.std.specs.Prelude.{◌≡◌, ◌*◌, ◌<◌, length, set};
-ghost use Rattle.grid.specs.Real.{at, zeros};
+ghost use Rattle.std.specs.Prelude.{◌≡◌, ◌*◌, ◌<◌, length};
+ghost use Rattle.grid.specs.Real.{zeros};
 ghost use Rattle.grid.specs.Cell.{at2, put2, entry, put_entry};
 
 // No dimension is above this.
@@ -10,21 +10,6 @@ pub const LARGEST: usize = 256;
 
 // 2^-52, the Rust's f64::EPSILON.
 pub const EPSILON: f64 = 1.0 / 4503599627370496.0;
-
-// Element j of the vector d.
-pub fn at1(d: &[f64], j: usize) -> f64
-    requires { j < length d.now }
-    ensures { result ≡ at d.now j }
-{
-    d[j]
-}
-
-pub fn put1(d: &mut [f64], j: usize, x: f64)
-    requires { j < length d.old }
-    ensures { d.new ≡ set d.old j x }
-{
-    d[j] = x;
-}
 
 // Row i, column j of the matrix v, which stands column by column.
 pub fn at(v: &[f64], rows: usize, cols: usize, i: usize, j: usize) -> f64
@@ -41,7 +26,7 @@ pub fn put(v: &mut [f64], rows: usize, cols: usize, i: usize, j: usize, x: f64)
     v[j * rows + i] = x;
 }
 
-// Row i, column j of the matrix a, which stands row by row.
+// Row i, column j of the matrix a, which stands row by row. The two layouts have names of their own, since a call that takes one for the other would read another number.
 pub fn entry(a: &[f64], rows: usize, cols: usize, i: usize, j: usize) -> f64
     requires { (i < rows) × (j < cols) × (length a.now ≡ rows * cols) }
     ensures { result ≡ entry a.now cols i j }
@@ -60,17 +45,5 @@ pub fn put_entry(a: &mut [f64], rows: usize, cols: usize, i: usize, j: usize, x:
 pub fn fill(d: &mut [f64])
     ensures { d.new ≡ zeros (length d.old) }
 {
-    for k in 0..d.len() {
-        put1(d, k, 0.0);
-    }
-}
-
-// to becomes what from is.
-pub fn copy(from: &[f64], to: &mut [f64])
-    requires { length to.old ≡ length from.now }
-    ensures { to.new ≡ from.now }
-{
-    for k in 0..from.len() {
-        put1(to, k, at1(from, k));
-    }
+    d.fill(0.0);
 }

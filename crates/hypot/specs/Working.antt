@@ -75,8 +75,8 @@ more n f w h l e =
 pub first_lt : (n s r : ℕ) → s * s + r ≡ (0 * 0 + 0) * 2 ^ 56 + n → n < 2 ^ 54 → (s + 1) * 2 ^ 28 ≤ 2 ^ 57
 first_lt n s r e h = omega (arith, sq_lt_back s (2 ^ 28) (omega arith))
 
-pub root_lt : (h l s r : ℕ) → s * s + r ≡ h * 2 ^ 56 + l → h < 2 ^ 54 → l < 2 ^ 56 → s < 2 ^ 55
-root_lt h l s r e a b = sq_lt_back s (2 ^ 55) (omega arith)
+pub root_lt : (n s r : ℕ) → s * s + r ≡ n → n < 2 ^ 110 → s < 2 ^ 55
+root_lt n s r e h = sq_lt_back s (2 ^ 55) (omega arith)
 
 pub small : (s r lost p : ℕ) → s < 2 ^ 55 → r ≤ 2 * s → lost < p → p ≤ 2 ^ 52 → r + lost < 2 ^ 63
 small s r lost p a b c d = omega arith
@@ -134,16 +134,15 @@ module _ (a b i j : ℕ) (order : b ≤ a) (top : a < 0x7ff0_0000_0000_0000) (ia
       full (inl z) = absurd (omega arith)
       full (inr h) = h
 
-  pub near : (h l lost p s r : ℕ) → i - j < 27 → j ≤ i → p ≡ 2 ^ (i - j) * 2 ^ (i - j)
-      → (h * 2 ^ 56 + l) * p + lost ≡ 4 * ((a - i * 2 ^ 52) * (a - i * 2 ^ 52) * p + (b - j * 2 ^ 52) * (b - j * 2 ^ 52)) → lost < p → h < 2 ^ 54 → l < 2 ^ 56
-      → s * s + r ≡ h * 2 ^ 56 + l → r ≤ 2 * s
+  pub near : (n lost p s r : ℕ) → i - j < 27 → j ≤ i → p ≡ 2 ^ (i - j) * 2 ^ (i - j)
+      → n * p + lost ≡ 4 * ((a - i * 2 ^ 52) * (a - i * 2 ^ 52) * p + (b - j * 2 ^ 52) * (b - j * 2 ^ 52)) → lost < p → n < 2 ^ 110
+      → s * s + r ≡ n → r ≤ 2 * s
       → of_bits binary64 (rounded i s (r + lost)) ≡ root_of_sum (val a * val a + val b * val b)
   unfolding sum_of
-  near h l lost p s r gap le pd e less H L whole rest =
+  near n lost p s r gap le pd e less top whole rest =
       let m = a - i * 2 ^ 52 in
-      let n = b - j * 2 ^ 52 in
-      let w : Stretch sum_of s i (r + lost) = made m n i j (i - j) p (h * 2 ^ 56 + l) lost s r (omega arith) pd e less whole rest in
-      rounds_more sum_of s i (r + lost) reach w (root_lt h l s r whole H L) (full pa.all (reached sum_of s i (r + lost) m w (below _ _)))
+      let w : Stretch sum_of s i (r + lost) = made m (b - j * 2 ^ 52) i j (i - j) p n lost s r (omega arith) pd e less whole rest in
+      rounds_more sum_of s i (r + lost) reach w (root_lt n s r whole top) (full pa.all (reached sum_of s i (r + lost) m w (below _ _)))
       ∙ ap root_of_sum sum_is
     where
       below : (x y : ℕ) → x ≤ x + y

@@ -18,80 +18,47 @@ use crate::rounding::rounded;
 use leaves::{hypot, magnitude};
 use root::{Found, digits, not_a_number};
 
-// hi * 2^56 + lo
-#[derive(Clone, Copy)]
-struct Wide {
-    hi: u64,
-    lo: u64,
-}
-
-// (hi * 2^56 + lo) * p + lost
-#[derive(Clone, Copy)]
-struct Cut {
-    hi: u64,
-    lo: u64,
-    lost: u64,
-}
+// The pattern of an infinity, above those of the finite numbers and below a NaN's.
+const INFINITY: u64 = 0x7ff0_0000_0000_0000;
 
 // The pattern of |x|, and that of the one NaN.
 fn pattern(x: f64) -> u64
     ensures { result ≡ to_bits binary64 (magnitude x) }
 {
     let m = magnitude(x);
-    if m == m {
-        return f64::to_bits(m);
+    if m.is_nan() {
+        0x7ff8_0000_0000_0000
+    } else {
+        m.to_bits()
     }
-    0x7ff8_0000_0000_0000
 }
 
 // How many digits a pattern's number has after the significand.
 fn low(b: u64) -> u64
     ensures { result ≡ low b }
 {
-    let x = b / 0x10_0000_0000_0000;
-    if x == 0 {
-        return 0;
-    }
-    x - 1
+    (b / 0x10_0000_0000_0000).saturating_sub(1)
 }
 
-// The square of q, in two parts.
-fn square(q: u64) -> Wide
-    requires { q < 2 ^ 54 }
-    ensures { (result.hi * 2 ^ 56 + result.lo ≡ q * q) × (result.lo < 2 ^ 56) }
+// 4 * (m * m + n * n / p) without its fraction, and what the quotient loses.
+fn radicand(m: u64, n: u64, p: u64) -> (u128, u64)
+    requires { (m < 2 ^ 53) × (n < 2 ^ 53) × (0 < p) }
+    ensures { (result.0 * p + result.1 ≡ 4 * (m * m * p + n * n)) × (result.1 < p) × (result.0 < 2 ^ 110) }
 {
-    let a = q / 0x1000_0000;
-    let c = q % 0x1000_0000;
-    let e = 2 * (a * c);
-    let l = e % 0x1000_0000 * 0x1000_0000 + c * c;
-    Wide {
-        hi: a * a + e / 0x1000_0000 + l / 0x100_0000_0000_0000,
-        lo: l % 0x100_0000_0000_0000,
-    }
+    let m = m as u128;
+    let n = n as u128;
+    let p = p as u128;
+    let square = 4 * (n * n);
+    (4 * (m * m) + square / p, (square % p) as u64)
 }
 
-// 4 * (m * m + n * n / p), with what the quotient loses. The power p of 2 is at most 2^56.
-fn radicand(m: u64, n: u64, p: u64) -> Cut
-    requires { (m < 2 ^ 53) × (n < 2 ^ 53) × (0 < p) × (p * (2 ^ 56 / p) ≡ 2 ^ 56) }
-    ensures { ((result.hi * 2 ^ 56 + result.lo) * p + result.lost ≡ 4 * (m * m * p + n * n)) × (result.lost < p) × (result.lo < 2 ^ 56) × (result.hi < 2 ^ 54) }
+// The whole root of n, and what is left over: two rounds of twenty-eight digits by the school method, the first two of each at the top.
+fn whole_root(n: u128) -> Found
+    requires { n < 2 ^ 110 }
+    ensures { (result.s * result.s + result.r ≡ n) × (result.r ≤ 2 * result.s) }
 {
-    let u = square(2 * m);
-    let v = square(2 * n);
-    let l = u.lo + (v.hi % p * (0x100_0000_0000_0000 / p) + v.lo / p);
-    Cut {
-        hi: u.hi + v.hi / p + l / 0x100_0000_0000_0000,
-        lo: l % 0x100_0000_0000_0000,
-        lost: v.lo % p,
-    }
-}
-
-// The whole root of hi * 2^56 + lo, and what is left over: two rounds of twenty-eight digits by the school method, the first two of each at the top.
-fn whole_root(hi: u64, lo: u64) -> Found
-    requires { (hi < 2 ^ 54) × (lo < 2 ^ 56) }
-    ensures { (result.s * result.s + result.r ≡ hi * 2 ^ 56 + lo) × (result.r ≤ 2 * result.s) }
-{
-    let w = digits(0, 0, hi * 64, 28);
-    digits(w.s, w.r, lo * 64, 28)
+    let w = digits(Found { s: 0, r: 0 }, (n >> 56) as u64 * 64, 28);
+    digits(w, (n % 0x100_0000_0000_0000) as u64 * 64, 28)
 }
 
 // The pattern of the root of the sum of two squares, by the patterns of the two numbers, the greater first.
@@ -104,13 +71,13 @@ fn length(a: u64, b: u64) -> u64
     if i - j >= 27 {
         return a;
     }
-    let q = radicand(
+    let (whole, lost) = radicand(
         a - i * 0x10_0000_0000_0000,
         b - j * 0x10_0000_0000_0000,
         1 << (2 * (i - j)),
     );
-    let w = whole_root(q.hi, q.lo);
-    rounded(i, w.s, w.r + q.lost)
+    let w = whole_root(whole);
+    rounded(i, w.s, w.r + lost)
 }
 
 // The `f64` that is nearest to the root of x * x + y * y. An infinity gives an infinity, also beside a NaN.
@@ -120,30 +87,28 @@ fn hypot2(x: f64, y: f64) -> f64
 {
     let a = pattern(x);
     let b = pattern(y);
-    if a == 0x7ff0_0000_0000_0000 {
-        return f64::from_bits(0x7ff0_0000_0000_0000);
+    if (a == INFINITY) | (b == INFINITY) {
+        return f64::INFINITY;
     }
-    if b == 0x7ff0_0000_0000_0000 {
-        return f64::from_bits(0x7ff0_0000_0000_0000);
-    }
-    if a > 0x7ff0_0000_0000_0000 {
+    if (a > INFINITY) | (b > INFINITY) {
         return not_a_number();
     }
-    if b > 0x7ff0_0000_0000_0000 {
-        return not_a_number();
-    }
+    // A branch, which the processor guesses: with `max` and `min` a call takes 102.7 ns in place of 99.1.
     if a < b {
-        return f64::from_bits(length(b, a));
+        f64::from_bits(length(b, a))
+    } else {
+        f64::from_bits(length(a, b))
     }
-    f64::from_bits(length(a, b))
 }
 
-// hypot by its edition: the scope's rule for 1, and else the nearest `f64`. The one name by which `tql2` reaches hypot.
+// hypot by its edition: the scope's rule for 1, and else the nearest `f64`. The one name by which `tql2` reaches hypot, and an edition is the
+// number that C gives.
 pub fn pythag(edition: usize, x: f64, y: f64) -> f64
     ensures { result ≡ pythag edition x y }
 {
     if edition == 1 {
-        return hypot(x, y);
+        hypot(x, y)
+    } else {
+        hypot2(x, y)
     }
-    hypot2(x, y)
 }

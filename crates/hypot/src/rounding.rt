@@ -6,10 +6,7 @@ ghost use Rattle.hypot.specs.RoundingParts.{digit, packed, rounded};
 fn digit(s: u64, t: u64) -> u64
     ensures { result ≡ digit s t }
 {
-    if t == 0 {
-        return s / 2 % 2;
-    }
-    1
+    if t == 0 { s / 2 % 2 } else { 1 }
 }
 
 // The pattern of s / 2 * 2^k units, rounded, for an s of 54 digits at most. Where t is not zero, more follows s.
@@ -18,10 +15,7 @@ fn packed(k: u64, s: u64, t: u64) -> u64
     ensures { result ≡ packed k s t }
 {
     let b = k * 0x10_0000_0000_0000 + (s + digit(s, t)) / 2;
-    if b < 0x7ff0_0000_0000_0000 {
-        return b;
-    }
-    0x7ff0_0000_0000_0000
+    b.min(0x7ff0_0000_0000_0000)
 }
 
 // The same for an s of 55 digits at most.
@@ -30,7 +24,8 @@ pub fn rounded(k: u64, s: u64, t: u64) -> u64
     ensures { result ≡ rounded k s t }
 {
     if s < 0x40_0000_0000_0000 {
-        return packed(k, s, t);
+        packed(k, s, t)
+    } else {
+        packed(k + 1, s / 2, t + s % 2)
     }
-    packed(k + 1, s / 2, t + s % 2)
 }

@@ -1,34 +1,31 @@
 -- What the run is lent, and how the call ends. Laws only.
-use mathlib.Core.Path.{◌≡◌, refl, ap, ◌∙◌}
-use mathlib.Core.List.{◌++◌}
+use Rattle.std.specs.Prelude.{Bool, true, false, cond, ◌∷◌, [], eqb}
+use Rattle.answers.specs.Checks.{lengths, lengths_of}
+use Rattle.answers.specs.Answers.{done, refused, passed}
+use mathlib.Core.Path.{◌≡◌, refl}
 use Prim.Native.Nat.{ℕ, ◌+◌, ◌*◌, ◌≤◌}
 use native.Mathlib.Omega.{arith}
-use borrow.Author.Tests.{eq-eqb, ne_eqb}
-use lib.ListN.{length}
-use Rattle.grid.specs.Real.{Vec, zeros}
-use Rattle.leaves.specs.Scan.{first_bad}
-use Rattle.leaves.specs.declared.Bad.{Bad}
-use Rattle.answers.specs.Answers.{refusal7}
-use Rattle.answers.specs.declared.Answer.{Answer}
 use Rattle.lanczos.specs.FitsLaws.{Fit}
 use Rattle.lanczos.specs.Checks.{size}
-use Rattle.lanczos.specs.Run.{ran}
 use Rattle.lanczos.specs.SizesLaws.{sized}
 use Rattle.lanczos.specs.Checks.{work_length}
-use Rattle.lanczos.specs.LanczosLaws.{lanczos_entered}
 
 pub enough : (n k len : ℕ) → Fit n k → len ≡ work_length n k → size n k * n + size n k * size n k ≤ len
 unfolding work_length
 enough n k len f l = omega (arith, (sized n k (size n k) f.size refl).one, l)
 
-module _ (n k limit edition : ℕ) (a b work : Vec) {found : Bad} {bad : Answer} (scan : found ≡ first_bad (a ++ b)) (said : bad ≡ refusal7 found) where
-  is : bad ≡ refusal7 (first_bad (a ++ b))
-  is = said ∙ ap (λ (x : Bad). refusal7 x) scan
+-- the check of four lengths is that of three, and then of the fourth
+pub four_lengths : (a w b v c u x y : ℕ) → lengths_of ((a, w) ∷ (b, v) ∷ (c, u) ∷ (x, y) ∷ [])
+    ≡ cond (passed (lengths a w b v c u)) (cond (eqb x y) (done 0) (refused 6 3)) (lengths a w b v c u)
+unfolding lengths
+four_lengths a w b v c u x y = go (eqb a w) refl (eqb b v) refl (eqb c u) refl (eqb x y) refl
+  where
+    Same : Type 0
+    Same = lengths_of ((a, w) ∷ (b, v) ∷ (c, u) ∷ (x, y) ∷ []) ≡ cond (passed (lengths a w b v c u)) (cond (eqb x y) (done 0) (refused 6 3)) (lengths a w b v c u)
 
-  pub enter_stops : {w x : Vec} → (bad.answer ≡ 0 → ⊥) → w ≡ zeros (length work) → x ≡ zeros (k + k * n)
-      → ◌≡◌ {A = Answer × Vec × Vec} (bad, w, x) (lanczos_entered n k limit edition a b work)
-  enter_stops h e g = rw (← is, ne_eqb bad.answer 0 h, e, g)
-
-  pub enter_goes : {r : Answer} {w x : Vec} → bad.answer ≡ 0 → w ≡ zeros (length work)
-      → ◌≡◌ {A = Answer × Vec} (r, x) (ran n k limit edition a b) → ◌≡◌ {A = Answer × Vec × Vec} (r, w, x) (lanczos_entered n k limit edition a b work)
-  enter_goes h e g = rw (← is, eq-eqb bad.answer 0 h, ← g, e)
+    go : (p : Bool) → eqb a w ≡ p → (q : Bool) → eqb b v ≡ q → (r : Bool) → eqb c u ≡ r → (s : Bool) → eqb x y ≡ s → Same
+    go true e true f true g true h = rw (e, f, g, h) refl
+    go true e true f true g false h = rw (e, f, g, h) refl
+    go true e true f false g s h = rw (e, f, g) refl
+    go true e false f r g s h = rw (e, f) refl
+    go false e q f r g s h = rw e refl

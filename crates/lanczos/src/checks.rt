@@ -1,9 +1,11 @@
 // The checks of a call of `lanczos`: sizes, limit, edition and lengths.
 ghost use Rattle.std.specs.Prelude.{◌≡◌, ◌≤◌};
+ghost use Rattle.answers.specs.Refusals.{verdict};
 ghost use Rattle.lanczos.specs.Checks.{size, work_length, checks};
 
 use answers::checks::{edition_good, lengths, limit_good};
-use answers::{Answer, done, least, refused};
+use answers::least;
+use answers::refusal::Refusal;
 use grid::LARGEST;
 
 // s, how many steps at the most.
@@ -31,30 +33,28 @@ pub fn checks(
     b: usize,
     work: usize,
     x: usize,
-) -> Answer
-    ensures { result ≡ checks n k limit edition a b work x }
+) -> Result<(), Refusal>
+    ensures { verdict result ≡ checks n k limit edition a b work x }
 {
     if n > LARGEST {
-        return refused(1, 0);
+        return Err(Refusal::Dimension);
     }
     if !limit_good(limit) {
-        return refused(2, 0);
+        return Err(Refusal::Limit);
     }
     if !edition_good(edition) {
-        return refused(12, 0);
+        return Err(Refusal::Edition);
     }
     if n == 0 {
-        return refused(14, 0);
+        return Err(Refusal::NoBand);
     }
     if k > n {
-        return refused(15, 0);
+        return Err(Refusal::Pairs);
     }
-    let first = lengths(a, n * n, b, n, work, work_length(n, k));
-    if first.answer != 0 {
-        return first;
-    }
-    if x != k + k * n {
-        return refused(6, 3);
-    }
-    done(0)
+    lengths(&[
+        (a, n * n),
+        (b, n),
+        (work, work_length(n, k)),
+        (x, k + k * n),
+    ])
 }

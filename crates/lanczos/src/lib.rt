@@ -2,15 +2,18 @@
 #![tactic(auto)]
 
 mod checks; // The checks of a call of `lanczos`: sizes, limit, edition and lengths
+mod settings; // What the inner `symmetric_eigen` is called with
 mod run; // The Lanczos run from a given start vector: document 000's `top_eigenpairs_lanczos`
 
 ghost use Rattle.std.specs.Prelude.{◌≡◌, ◌+◌, ◌*◌, length};
-ghost use Rattle.lanczos.specs.FitsLaws.{Called, Fit};
+ghost use Rattle.lanczos.specs.FitsLaws.{Fit};
 ghost use Rattle.lanczos.specs.Checks.{work_length};
 ghost use Rattle.lanczos.specs.Lanczos.{lanczos};
 ghost use Rattle.lanczos.specs.LanczosLaws.{lanczos_entered};
 
-use answers::{Answer, refusal7};
+use crate::settings::Settings;
+use answers::Answer;
+use answers::refusal::Refusal;
 use grid::fill;
 use leaves::scan::first_bad_of_both;
 
@@ -18,25 +21,25 @@ use leaves::scan::first_bad_of_both;
 fn enter(
     n: usize,
     k: usize,
-    limit: usize,
-    edition: usize,
+    how: Settings,
     a: &[f64],
     b: &[f64],
     work: &mut [f64],
     x: &mut [f64],
 ) -> Answer
-    requires { Called limit edition × Fit n k × (length a.now ≡ n * n) × (length b.now ≡ n) × (length work.old ≡ work_length n k) × (length x.old ≡ k + k * n) }
-    ensures { (result, work.new, x.new) ≡ lanczos_entered n k limit edition a.now b.now work.old }
+    requires { Fit n k × (length a.now ≡ n * n) × (length b.now ≡ n) × (length work.old ≡ work_length n k) × (length x.old ≡ k + k * n) }
+    ensures { (result, work.new, x.new) ≡ lanczos_entered n k how.limit how.edition a.now b.now work.old }
 {
     fill(work);
     fill(x);
-    let bad = refusal7(first_bad_of_both(a, b));
-    if bad.answer != 0 {
-        return bad;
+    match first_bad_of_both(a, b) {
+        None => {
+            let r = crate::run::run(n, k, how, a, b, work, x);
+            fill(work);
+            r
+        }
+        Some(bad) => Refusal::NotFinite(bad.index).into(),
     }
-    let r = crate::run::run(n, k, limit, edition, a, b, work, x);
-    fill(work);
-    r
 }
 
 pub fn lanczos(
@@ -61,8 +64,11 @@ pub fn lanczos(
         work.len(),
         answer.len(),
     );
-    if check.answer != 0 {
-        return check;
+    match check {
+        Ok(()) => {
+            let how = Settings { limit, edition };
+            enter(n, k, how, matrix, start, work, answer)
+        }
+        Err(r) => r.into(),
     }
-    enter(n, k, limit, edition, matrix, start, work, answer)
 }

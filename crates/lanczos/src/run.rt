@@ -10,18 +10,19 @@ ghost use Rattle.lanczos_steps.specs.Krylov.{steps};
 ghost use Rattle.lanczos_steps.specs.KrylovLaws.{Both};
 ghost use Rattle.lanczos_pairs.specs.LeadingPairs.{selected};
 ghost use Rattle.lanczos_pairs.specs.TridiagonalEigen.{inward};
-ghost use Rattle.lanczos.specs.FitsLaws.{Called, Fit, Room, Small};
+ghost use Rattle.lanczos.specs.FitsLaws.{Fit, Room, Small};
 ghost use Rattle.lanczos.specs.Checks.{size};
 ghost use Rattle.lanczos.specs.Run.{paired, solved, ran};
 
 use crate::checks::size;
+use crate::settings::Settings;
 use answers::{Answer, answered};
 use gram_schmidt::norm;
 use grid::LARGEST;
 use lanczos_pairs::leading_pairs::select;
 use lanczos_pairs::tridiagonal_eigen::small;
 use lanczos_steps::start_vector::first;
-use lanczos_steps::steps;
+use lanczos_steps::{Tridiagonal, steps};
 use leaves::{class_of, is_finite};
 
 // ---- the small problem and the pairs
@@ -51,21 +52,19 @@ fn solve(
     s: usize,
     k: usize,
     m: usize,
-    limit: usize,
-    edition: usize,
-    al: &[f64; LARGEST],
-    be: &[f64; LARGEST],
+    how: Settings,
+    t: &Tridiagonal,
     d: &mut [f64],
     e: &mut [f64],
     work: &mut [f64],
     x: &mut [f64],
 ) -> Answer
-    requires { Called limit edition × Small n s m (length work.old) × (part (s * n) (s * n + m * m) work.old ≡ zeros (m * m)) × (d.old ≡ zeros m) × (e.old ≡ zeros m) × (x.old ≡ zeros (k + k * n)) × Both al.now be.now }
-    ensures { (result, x.new) ≡ paired n k m (take (s * n) work.old) (inward m limit edition al.now be.now) }
+    requires { Small n s m (length work.old) × (part (s * n) (s * n + m * m) work.old ≡ zeros (m * m)) × (d.old ≡ zeros m) × (e.old ≡ zeros m) × (x.old ≡ zeros (k + k * n)) × Both t.now.alphas t.now.betas }
+    ensures { (result, x.new) ≡ paired n k m (take (s * n) work.old) (inward m how.limit how.edition t.now.alphas t.now.betas) }
 {
     let f = s * n;
     let g = f + m * m;
-    let r = small(m, limit, edition, al, be, &mut work[f..g], d, e);
+    let r = small(m, how.limit, how.edition, t, &mut work[f..g], d, e);
     if r.answer != 0 {
         return r;
     }
@@ -77,32 +76,17 @@ fn solve_local(
     s: usize,
     k: usize,
     m: usize,
-    limit: usize,
-    edition: usize,
-    al: &[f64; LARGEST],
-    be: &[f64; LARGEST],
+    how: Settings,
+    t: &Tridiagonal,
     work: &mut [f64],
     x: &mut [f64],
 ) -> Answer
-    requires { Called limit edition × Small n s m (length work.old) × (part (s * n) (s * n + m * m) work.old ≡ zeros (m * m)) × (x.old ≡ zeros (k + k * n)) × Both al.now be.now }
-    ensures { (result, x.new) ≡ paired n k m (take (s * n) work.old) (inward m limit edition al.now be.now) }
+    requires { Small n s m (length work.old) × (part (s * n) (s * n + m * m) work.old ≡ zeros (m * m)) × (x.old ≡ zeros (k + k * n)) × Both t.now.alphas t.now.betas }
+    ensures { (result, x.new) ≡ paired n k m (take (s * n) work.old) (inward m how.limit how.edition t.now.alphas t.now.betas) }
 {
     let mut d = [0.0f64; LARGEST];
     let mut e = [0.0f64; LARGEST];
-    solve(
-        n,
-        s,
-        k,
-        m,
-        limit,
-        edition,
-        al,
-        be,
-        &mut d[..m],
-        &mut e[..m],
-        work,
-        x,
-    )
+    solve(n, s, k, m, how, t, &mut d[..m], &mut e[..m], work, x)
 }
 
 // ---- the run
@@ -112,26 +96,25 @@ fn go(
     n: usize,
     s: usize,
     k: usize,
-    limit: usize,
-    edition: usize,
+    how: Settings,
     a: &[f64],
     v: &mut [f64],
     w: &mut [f64],
     work: &mut [f64],
     x: &mut [f64],
 ) -> Answer
-    requires { Called limit edition × (0 < s) × Room n s (length work.old) × (length a.now ≡ n * n) × (length v.old ≡ n) × (length w.old ≡ n) × (work.old ≡ zeros (length work.old)) × (x.old ≡ zeros (k + k * n)) }
-    ensures { (result, x.new) ≡ solved n k limit edition (steps n s a.now (zeros (s * n)) (zeros 256) (zeros 256) v.old) }
+    requires { (0 < s) × Room n s (length work.old) × (length a.now ≡ n * n) × (length v.old ≡ n) × (length w.old ≡ n) × (work.old ≡ zeros (length work.old)) × (x.old ≡ zeros (k + k * n)) }
+    ensures { (result, x.new) ≡ solved n k how.limit how.edition (steps n s a.now (zeros (s * n)) (zeros 256) (zeros 256) v.old) }
 {
-    let mut al = [0.0f64; LARGEST];
-    let mut be = [0.0f64; LARGEST];
+    let mut t = Tridiagonal {
+        alphas: [0.0; LARGEST],
+        betas: [0.0; LARGEST],
+    };
     let f = s * n;
-    let r = steps(n, s, a, &mut work[..f], &mut al, &mut be, v, w);
-    if r.said.answer != 0 {
-        return r.said;
+    match steps(n, s, a, &mut work[..f], &mut t, v, w) {
+        Ok((m, _)) => solve_local(n, s, k, m, how, &t, work, x),
+        Err(r) => r,
     }
-    let m = r.dim;
-    solve_local(n, s, k, m, limit, edition, &al, &be, work, x)
 }
 
 // From the start vector b, whose norm is `by`.
@@ -139,8 +122,7 @@ fn begin(
     n: usize,
     s: usize,
     k: usize,
-    limit: usize,
-    edition: usize,
+    how: Settings,
     a: &[f64],
     by: f64,
     b: &[f64],
@@ -149,46 +131,32 @@ fn begin(
     work: &mut [f64],
     x: &mut [f64],
 ) -> Answer
-    requires { Called limit edition × (0 < s) × Room n s (length work.old) × (length a.now ≡ n * n) × (length b.now ≡ n) × (length v.old ≡ n) × (length w.old ≡ n) × (work.old ≡ zeros (length work.old)) × (x.old ≡ zeros (k + k * n)) }
-    ensures { (result, x.new) ≡ solved n k limit edition (steps n s a.now (zeros (s * n)) (zeros 256) (zeros 256) (started n by b.now)) }
+    requires { (0 < s) × Room n s (length work.old) × (length a.now ≡ n * n) × (length b.now ≡ n) × (length v.old ≡ n) × (length w.old ≡ n) × (work.old ≡ zeros (length work.old)) × (x.old ≡ zeros (k + k * n)) }
+    ensures { (result, x.new) ≡ solved n k how.limit how.edition (steps n s a.now (zeros (s * n)) (zeros 256) (zeros 256) (started n by b.now)) }
 {
-    first(n, by, b, v);
-    go(n, s, k, limit, edition, a, v, w, work, x)
+    first(by, b, v);
+    go(n, s, k, how, a, v, w, work, x)
 }
 
 // From the start vector b.
 pub fn run(
     n: usize,
     k: usize,
-    limit: usize,
-    edition: usize,
+    how: Settings,
     a: &[f64],
     b: &[f64],
     work: &mut [f64],
     x: &mut [f64],
 ) -> Answer
-    requires { Called limit edition × Fit n k × (length a.now ≡ n * n) × (length b.now ≡ n) × (size n k * n + size n k * size n k ≤ length work.old) × (work.old ≡ zeros (length work.old)) × (x.old ≡ zeros (k + k * n)) }
-    ensures { (result, x.new) ≡ ran n k limit edition a.now b.now }
+    requires { Fit n k × (length a.now ≡ n * n) × (length b.now ≡ n) × (size n k * n + size n k * size n k ≤ length work.old) × (work.old ≡ zeros (length work.old)) × (x.old ≡ zeros (k + k * n)) }
+    ensures { (result, x.new) ≡ ran n k how.limit how.edition a.now b.now }
 {
-    let by = norm(n, b);
+    let by = norm(b);
     if !is_finite(by) {
         return answered(class_of(by), 3, 0, 0);
     }
     let s = size(n, k);
     let mut v = [0.0f64; LARGEST];
     let mut w = [0.0f64; LARGEST];
-    begin(
-        n,
-        s,
-        k,
-        limit,
-        edition,
-        a,
-        by,
-        b,
-        &mut v[..n],
-        &mut w[..n],
-        work,
-        x,
-    )
+    begin(n, s, k, how, a, by, b, &mut v[..n], &mut w[..n], work, x)
 }

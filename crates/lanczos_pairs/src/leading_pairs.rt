@@ -3,9 +3,8 @@ ghost use Rattle.std.specs.Prelude.{◌≡◌, ◌+◌, ◌*◌, ◌≤◌, leng
 ghost use Rattle.lanczos_pairs.specs.LeadingPairs.{looked, selected};
 
 use crate::ritz_pairs::pairs;
-use answers::{Answer, answered, least, marked};
-use grid::{LARGEST, fill};
-use leaves::is_bad;
+use answers::{Answer, answered, least, refuse};
+use grid::LARGEST;
 use leaves::scan::first_bad;
 use svd_sort_svd_descending::order::note;
 
@@ -13,12 +12,10 @@ use svd_sort_svd_descending::order::note;
 fn look(found: usize, count: usize, x: &mut [f64]) -> Answer
     ensures { (result, x.new) ≡ looked found count x.old }
 {
-    let b = first_bad(x);
-    if is_bad(b) {
-        fill(x);
-        return marked(6, count, b);
+    match first_bad(x) {
+        None => answered(0, found, 0, count),
+        Some(bad) => refuse(answered(bad.class, 6, bad.index, count), x),
     }
-    answered(0, found, 0, count)
 }
 
 // The pairs with the greatest values, in descending order.

@@ -5,7 +5,7 @@ ghost use Rattle.lanczos_pairs.specs.RitzPairs.{ritz, levelled, pair, pairs};
 
 use gram_schmidt::normalise::over;
 use gram_schmidt::{column_of, norm};
-use grid::{EPSILON, LARGEST, at1, copy, put1};
+use grid::{EPSILON, LARGEST};
 use matvec::weighted_rows::sum;
 
 // The vector of the small problem's place c. by is scratch: its numbers in the vectors of q.
@@ -35,13 +35,12 @@ fn ritz(n: usize, s: usize, m: usize, q: &[f64], vecs: &[f64], c: usize, x: &mut
 }
 
 // c over its norm, where that is above EPSILON.
-fn norm_out(n: usize, c: &mut [f64])
-    requires { length c.old ≡ n }
-    ensures { c.new ≡ levelled n c.old }
+fn norm_out(c: &mut [f64])
+    ensures { c.new ≡ levelled (length c.old) c.old }
 {
-    let by = norm(n, c);
+    let by = norm(c);
     if by > EPSILON {
-        over(n, by, c);
+        over(by, c);
     }
 }
 
@@ -62,12 +61,12 @@ fn pair(
     requires { (n ≤ 256) × (m ≤ 256) × (t < k) × (m ≤ s) × (c < m) × (length q.now ≡ s * n) × (length vals.now ≡ m) × (length vecs.now ≡ m * m) × (length y.old ≡ n) × (length x.old ≡ k + k * n) }
     ensures { x.new ≡ pair n k m q.now vals.now vecs.now c t x.old }
 {
-    put1(x, t, at1(vals, c));
+    x[t] = vals[c];
     ritz(n, s, m, q, vecs, c, y);
-    norm_out(n, y);
+    norm_out(y);
     let f = k + t * n;
     let e = f + n;
-    copy(y, &mut x[f..e]);
+    x[f..e].copy_from_slice(y);
 }
 
 pub fn pairs(
@@ -87,7 +86,6 @@ pub fn pairs(
     ensures { x.new ≡ pairs n k m found q.now vals.now vecs.now (λ (t : ℕ). get_or o.now t 0) x.old }
 {
     for t in 0..found {
-        let c = o[t];
-        pair(n, s, k, m, q, vals, vecs, c, t, y, x);
+        pair(n, s, k, m, q, vals, vecs, o[t], t, y, x);
     }
 }

@@ -10,7 +10,7 @@ use answers::Answer;
 use eigen_symmetric_eigen::after_tred2::after_tred;
 use eigen_symmetric_eigen::layout::rows;
 use eigen_tred2::tred2;
-use grid::LARGEST;
+use lanczos_steps::Tridiagonal;
 
 // `symmetric_eigen` of the matrix t, in place: its values to d, and its vectors, row by row, to t.
 fn inner(
@@ -26,10 +26,9 @@ fn inner(
 {
     tred2(m, t, d, e);
     let r = after_tred(m, limit, edition, t, d, e);
-    if r.answer != 0 {
-        return r;
+    if r.answer == 0 {
+        rows(m, t);
     }
-    rows(m, t);
     r
 }
 
@@ -38,15 +37,14 @@ pub fn small(
     m: usize,
     limit: usize,
     edition: usize,
-    al: &[f64; LARGEST],
-    be: &[f64; LARGEST],
+    x: &Tridiagonal,
     t: &mut [f64],
     d: &mut [f64],
     e: &mut [f64],
 ) -> Answer
     requires { (0 < m) × (m ≤ 256) × (limit ≤ 60) × Sized m t.old d.old e.old }
-    ensures { (result, t.new, d.new, e.new) ≡ inner_of m limit edition (tri m al.now be.now t.old, d.old, e.old) }
+    ensures { (result, t.new, d.new, e.new) ≡ inner_of m limit edition (tri m x.now.alphas x.now.betas t.old, d.old, e.old) }
 {
-    tri(m, al, be, t);
+    tri(m, x, t);
     inner(m, limit, edition, t, d, e)
 }

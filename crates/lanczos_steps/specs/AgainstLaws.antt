@@ -1,13 +1,12 @@
 -- Taking out vectors one after the other, each walk with the dot of the next. Laws only.
 -- `passed` is what the code does on the way; no public promise cites it.
-use Rattle.std.specs.Prelude.{◌≡◌, ℕ, ◌+◌, ◌-◌, ◌*◌, ◌<◌, take, drop}
-use Rattle.std.proofs.Common.{sym, ◌∙◌, arith, add-mul}
+use Rattle.std.specs.Prelude.{◌≡◌, ℕ, ◌+◌, ◌-◌, ◌<◌}
+use Rattle.std.proofs.Common.{sym, ◌∙◌, arith}
 use Rattle.std.proofs.Math.Path.{ap}
 use Rattle.std.specs.Float.Ieee.{Float, neg}
 use Rattle.grid.specs.Loop.{upto}
 use Rattle.grid.specs.LoopLaws.{upto_none, next}
 use Rattle.grid.specs.Real.{Vec}
-use Rattle.grid.specs.Table.{part}
 use Rattle.gram_schmidt.specs.Gram.{dot}
 use Rattle.matvec.specs.Matvec.{row_of, added, without}
 use Rattle.matvec.specs.Rows.{added_dot}
@@ -15,17 +14,6 @@ use Rattle.matvec.specs.Rows.{added_dot}
 -- w against the vectors before step j, and against v
 unfoldable pub against_all : ℕ → ℕ → Vec → Vec → Vec → Vec
 against_all n j q v w = without n v (upto (λ i. without n (row_of n i q)) 0 j w)
-
--- ---- the first row, and the one behind row i
-
-pub row_0 : (n : ℕ) (q : Vec) → take n q ≡ row_of n 0 q
-row_0 n q =
-    let z : 0 ≡ 0 * n = omega arith in
-    let e : n ≡ 0 * n + n - 0 * n = omega arith in
-    λ k. take (e k) (drop (z k) q)
-
-pub row_behind : (n i : ℕ) (q : Vec) → part (i * n + n) (i * n + n + n) q ≡ row_of n (i + 1) q
-row_behind n i q = ap (λ (k : ℕ). part k (k + n) q) (omega (arith, add-mul i 1 n))
 
 -- ---- w without the first m vectors
 

@@ -1,5 +1,5 @@
 -- What the steps leave: alphas and betas that are finite (`steps_fine`), and how many steps were begun (`steps_some`, `steps_few`). Laws only.
-use Rattle.std.specs.Prelude.{◌≡◌, ℕ, ◌+◌, ◌*◌, ◌<◌, ◌≤◌, Bool, true, false, cond, length, slice_set, refl, Float}
+use Rattle.std.specs.Prelude.{◌≡◌, ℕ, ◌+◌, ◌*◌, ◌<◌, ◌≤◌, Bool, true, false, cond, length, slice_set, refl, Float, Result}
 use Rattle.std.proofs.Common.{sym, ap, ◌∙◌, true≢false, arith, length-set, get_or-set_same, get_or-set_other}
 use Rattle.std.proofs.Math.Decide.{ℕ_discrete}
 use Rattle.std.specs.Float.{nan}
@@ -9,10 +9,11 @@ use Rattle.grid.specs.LoopLaws.{upto_both}
 use Rattle.grid.specs.Real.{Vec, zero64, zeros, at}
 use Rattle.leaves.specs.Leaf.{is_finite}
 use Rattle.answers.specs.Answers.{done}
+use Rattle.answers.specs.declared.Answer.{Answer}
 use Rattle.gram_schmidt.specs.Gram.{dot, norm}
 use Rattle.matvec.specs.Matvec.{replaced, product}
-use Rattle.lanczos_steps.specs.declared.step_end.Went.{Went}
-use Rattle.lanczos_steps.specs.StepEnd.{least_beta, went, step_ended}
+use Rattle.lanczos_steps.specs.declared.step_end.Next.{Next}
+use Rattle.lanczos_steps.specs.StepEnd.{least_beta, Went, went, step_ended, following}
 use Rattle.lanczos_steps.specs.Krylov.{LanczosState, step, steps}
 
 -- ---- parts of a step, as the code has them; no promise speaks of these
@@ -24,6 +25,10 @@ kept n j alpha w q al be v =
 
 abbrev pub step_if_on : ℕ → Vec → ℕ → LanczosState → LanczosState
 step_if_on n a j (r, q, al, be, v) = cond r.on (step n a j q al be v) (r, q, al, be, v)
+
+-- what comes back of a step
+abbrev pub told : LanczosState → Result Next Answer × Vec × Vec × Vec × Vec
+told (r, q, al, be, v) = (following r, q, al, be, v)
 
 -- ---- a list of so many finite numbers
 

@@ -1,47 +1,40 @@
 // How a Lanczos step ends, by the norm of what is left.
 ghost use Rattle.std.specs.Prelude.{◌≡◌, ◌<◌, length};
-ghost use Rattle.lanczos_steps.specs.StepEnd.{step_ended};
+ghost use Rattle.lanczos_steps.specs.StepEnd.{step_ended, followed};
 
-use answers::{Answer, answered, done};
+use answers::{Answer, answered};
 use gram_schmidt::normalise::over;
-use grid::{LARGEST, copy};
+use grid::LARGEST;
 use leaves::{class_of, is_finite};
 
 const LEAST_BETA: f64 = 0.000000000001;
 
-// How the steps stand: whether they go on, 0 or the refusal, and how many were begun.
+// What follows a step: another one, or the end of the run, where no direction is left.
 #[derive(Clone, Copy)]
-pub struct Went {
-    pub on: bool,
-    pub said: Answer,
-    pub dim: usize,
+pub enum Next {
+    Step,
+    End,
 }
 
 // The end of step j, with that beta.
-pub fn end(n: usize, j: usize, beta: f64, w: &[f64], be: &mut [f64; LARGEST], v: &mut [f64]) -> Went
-    requires { (j < 256) × (length v.old ≡ n) × (length w.now ≡ n) }
-    ensures { (result, be.new, v.new) ≡ step_ended n j beta w.now be.old v.old }
+pub fn end(
+    j: usize,
+    beta: f64,
+    w: &[f64],
+    be: &mut [f64; LARGEST],
+    v: &mut [f64],
+) -> Result<Next, Answer>
+    requires { (j < 256) × (length w.now ≡ length v.old) }
+    ensures { (result, be.new, v.new) ≡ followed (step_ended (length v.old) j beta w.now be.old v.old) }
 {
     if !is_finite(beta) {
-        return Went {
-            on: false,
-            said: answered(class_of(beta), 5, j, 0),
-            dim: j + 1,
-        };
+        return Err(answered(class_of(beta), 5, j, 0));
     }
     if beta > LEAST_BETA {
         be[j] = beta;
-        copy(w, v);
-        over(n, beta, v);
-        return Went {
-            on: true,
-            said: done(0),
-            dim: j + 1,
-        };
+        v.copy_from_slice(w);
+        over(beta, v);
+        return Ok(Next::Step);
     }
-    Went {
-        on: false,
-        said: done(0),
-        dim: j + 1,
-    }
+    Ok(Next::End)
 }

@@ -1,6 +1,6 @@
 -- Where the answer of `lanczos` is 0: the place is how many pairs there are, the smaller of k and the steps run; the values descend; and all behind the pairs is +0.0. Laws only.
-use Rattle.std.specs.Prelude.{◌≡◌, refl, Bool, true, false, cond, not, ◌++◌, ℕ, ◌+◌, ◌-◌, ◌*◌, ◌<◌, ◌≤◌, ltb, eqb, length, set, take, drop}
-use Rattle.std.proofs.Common.{sym, ◌∙◌, ⊎_elim, mul-le-mul_right, arith, ltb-true, ltb-false, eqb-true, length-set, length-append, length-drop, length-take-le, get_or-take, get_or-drop, get_or-append-add}
+use Rattle.std.specs.Prelude.{◌≡◌, refl, Bool, true, false, cond, ◌++◌, ℕ, ◌+◌, ◌-◌, ◌*◌, ◌<◌, ◌≤◌, ltb, length, set, take, drop}
+use Rattle.std.proofs.Common.{sym, ◌∙◌, ⊎_elim, mul-le-mul_right, arith, ltb-true, ltb-false, length-set, length-append, length-drop, length-take-le, get_or-take, get_or-drop, get_or-append-add}
 use Rattle.std.proofs.Math.Path.{ap, subst}
 use Rattle.std.proofs.Math.Nat.{add-mul}
 use Rattle.std.proofs.Math.Decide.{ℕ_discrete}
@@ -8,13 +8,12 @@ use Rattle.std.proofs.lemmas.Bool.{eqb-false}
 use Rattle.std.specs.Float.Ieee.{Float, nan, le, lt}
 use Rattle.std.proofs.Math.ListN.{length-replicate, get_or-replicate, get_or-append}
 use Rattle.std.proofs.Math.Seq.{get_or-set_same, get_or-set_other}
-use Rattle.grid.specs.Loop.{upto}
 use Rattle.grid.specs.LoopLaws.{upto_both, upto_keeps}
 use Rattle.grid.specs.Real.{Vec, at, zero64, zeros, epsilon, ◌⊘◌, ◌⊕◌, ◌⊗◌}
 use Rattle.grid.specs.Cell.{entry}
 use Rattle.leaves.specs.Leaf.{is_finite}
 use Rattle.leaves.specs.ScanLaws.{class_cases, first_class}
-use Rattle.answers.specs.Answers.{done, passed, least}
+use Rattle.answers.specs.Answers.{passed, least}
 use Rattle.answers.specs.declared.Answer.{Answer}
 use Rattle.gram_schmidt.specs.Gram.{norm}
 use Rattle.gram_schmidt.specs.Unit.{over}

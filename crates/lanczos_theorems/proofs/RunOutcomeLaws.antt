@@ -1,5 +1,6 @@
 -- What a call of `lanczos` gives is what `Says` tells of its steps; so its index, its answers and its pairs. Laws only.
-use Rattle.std.specs.Prelude.{◌≡◌, ◌↔◌, ◌⊎◌, not, ◌++◌, ltb, eqb, Float}
+use Rattle.leaves.specs.declared.Bad.{Bad}
+use Rattle.std.specs.Prelude.{◌≡◌, ◌↔◌, not, ◌++◌, ltb, eqb, Float, Option, Some, None, is_some}
 use Rattle.std.proofs.Math.Path.{refl, ap, subst}
 use Rattle.std.proofs.Common.{sym, ◌∙◌, inl, inr, ⊎_elim, true≢false, arith, ltb-false, ltb-true, eqb-true, eq-eqb, ne_eqb}
 use Rattle.std.proofs.Math.Bool.{Bool, true, false, cond}
@@ -9,34 +10,28 @@ use Rattle.std.proofs.Math.Decide.{ℕ_discrete, dec_lt}
 use Rattle.std.proofs.lemmas.Bool.{eqb-false}
 use Rattle.std.specs.Float.Ieee.{lt}
 use lib.ListN.{length, length-replicate, take, drop}
-use Rattle.grid.specs.Loop.{upto}
 use Rattle.grid.specs.LoopLaws.{upto_none, upto_more}
 use Rattle.grid.specs.Real.{Vec, zero64, zeros, at}
 use Rattle.leaves.specs.Leaf.{is_finite}
-use Rattle.leaves.specs.Scan.{class_of, is_bad, first_bad}
-use Rattle.leaves.specs.Finite.{Finite, First}
+use Rattle.leaves.specs.Scan.{class_of, first_bad, bad_at}
+use Rattle.leaves.specs.Finite.{Finite}
 use Rattle.leaves.specs.ScanLaws.{scan_first, first_scan, first_bad_none, first_bad_fine, class_cases, first_class}
-use Rattle.leaves.specs.declared.Bad.{Bad}
-use Rattle.leaves.specs.declared.Bad.TheVariants.{At, Nowhere}
 use Rattle.answers.specs.Answers.{answered, done, refused, passed, refusal7, marked, least}
 use Rattle.answers.specs.Index.{Class, AtMark}
 use Rattle.answers.specs.declared.Answer.{Answer}
 use Rattle.answers.specs.Checks.{limit_good, edition_good, lengths}
-use Rattle.answers.specs.ChecksLaws.{limit_right, lengths_index}
+use Rattle.answers.specs.ChecksLaws.{limit_right}
 use Rattle.answers.proofs.EditionLaws.{edition_right}
-use Rattle.gram_schmidt.specs.Gram.{dot, norm}
+use Rattle.gram_schmidt.specs.Gram.{norm}
 use Rattle.matvec.specs.Matvec.{product}
 use Rattle.lanczos_steps.specs.Reorthogonalise.{twice}
-use Rattle.lanczos_steps.specs.StepEnd.{least_beta, went, step_ended}
-use Rattle.lanczos_steps.specs.declared.step_end.Went.{Went}
+use Rattle.lanczos_steps.specs.StepEnd.{least_beta, Went, went, step_ended}
 use Rattle.lanczos_steps.specs.StartVector.{started}
 use Rattle.lanczos_steps.specs.Krylov.{LanczosState, recurred, step, steps}
-use Rattle.lanczos_steps.specs.KrylovLaws.{step_if_on, Both, both_zeros, steps_fine, steps_few}
+use Rattle.lanczos_steps.specs.KrylovLaws.{step_if_on, Both, both_zeros, steps_fine}
 use Rattle.lanczos_pairs.specs.LeadingPairs.{looked, selected}
-use Rattle.lanczos_pairs.specs.TridiagonalMatrix.{tri}
 use Rattle.lanczos_pairs.specs.TridiagonalEigen.{inward}
 use Rattle.lanczos_pairs.specs.InPlaceLaws.{own_tri}
-use Rattle.eigen_symmetric_eigen.specs.SymmetricEigen.{eigen}
 use Rattle.eigen_theorems.specs.Outcome.{RunAnswer}
 use Rattle.eigen_theorems.specs.Outcome as Outcome
 use Rattle.eigen_theorems.proofs.OutcomeLaws as OutcomeLaws
@@ -46,7 +41,7 @@ use Rattle.lanczos.specs.Run.{none, paired, solved, ran}
 use Rattle.lanczos.specs.Checks.{size, work_length, checks}
 use Rattle.lanczos.specs.Lanczos.{lanczos}
 use Rattle.lanczos_theorems.specs.Early.{Outcome, Promised}
-use Rattle.lanczos_theorems.specs.RunOutcome.{state_at, alpha_at, beta_at, Goes, Clean, Stepped, all, early, matrix_of, inner_of, values_of, found_of, Says, at_number, at_norm, at_alpha, at_beta, inner, at_answer, found, Points, the_norm, the_alpha, the_beta, the_inner, the_answer, LanczosAnswer, Fit}
+use Rattle.lanczos_theorems.specs.RunOutcome.{state_at, alpha_at, beta_at, Goes, Clean, Stepped, all, early, matrix_of, inner_of, found_of, Says, at_number, at_norm, at_alpha, at_beta, inner, at_answer, found, Points, the_norm, the_alpha, the_beta, the_inner, the_answer, LanczosAnswer, Fit}
 
 -- ---- the steps
 
@@ -211,13 +206,13 @@ module _ (n k limit edition : ℕ) (a b : Vec) where
     unfolding paired selected looked
     paired_says m l s = go (passed (inner_of n k limit edition a b m).0) refl
       where
-        more : (inner_of n k limit edition a b m).0.answer ≡ 0 → (y : Bad) → first_bad (found_of n k limit edition a b m) ≡ y
-            → RunGives (cond (is_bad y) (marked 6 (inner_of n k limit edition a b m).0.count y, zeros (length (found_of n k limit edition a b m))) (answered 0 (least k m) 0 (inner_of n k limit edition a b m).0.count, found_of n k limit edition a b m))
-        more z (At i c) e = at_answer fine start m l s z (scan_first (at (found_of n k limit edition a b m)) (length (found_of n k limit edition a b m)) i c e)
-        more z Nowhere e = found fine start m l s z (first_bad_none (found_of n k limit edition a b m) e)
+        more : (inner_of n k limit edition a b m).0.answer ≡ 0 → (y : Option Bad) → first_bad (found_of n k limit edition a b m) ≡ y
+            → RunGives (cond (is_some y) (marked 6 (inner_of n k limit edition a b m).0.count y, zeros (length (found_of n k limit edition a b m))) (answered 0 (least k m) 0 (inner_of n k limit edition a b m).0.count, found_of n k limit edition a b m))
+        more z (Some bad) e = at_answer fine start m l s z (scan_first (at (found_of n k limit edition a b m)) (length (found_of n k limit edition a b m)) bad.index bad.class e)
+        more z None e = found fine start m l s z (first_bad_none (found_of n k limit edition a b m) e)
 
         go : (t : Bool) → passed (inner_of n k limit edition a b m).0 ≡ t
-            → RunGives (cond t (cond (is_bad (first_bad (found_of n k limit edition a b m))) (marked 6 (inner_of n k limit edition a b m).0.count (first_bad (found_of n k limit edition a b m)), zeros (length (found_of n k limit edition a b m))) (answered 0 (least k m) 0 (inner_of n k limit edition a b m).0.count, found_of n k limit edition a b m)) (none n k (inner_of n k limit edition a b m).0))
+            → RunGives (cond t (cond (is_some (first_bad (found_of n k limit edition a b m))) (marked 6 (inner_of n k limit edition a b m).0.count (first_bad (found_of n k limit edition a b m)), zeros (length (found_of n k limit edition a b m))) (answered 0 (least k m) 0 (inner_of n k limit edition a b m).0.count, found_of n k limit edition a b m)) (none n k (inner_of n k limit edition a b m).0))
         go true e = more (eqb-true _ 0 e) (first_bad (found_of n k limit edition a b m)) refl
         go false e = inner fine start m l s (eqb-false _ 0 e)
 
@@ -253,9 +248,9 @@ module _ (n k limit edition : ℕ) (a b : Vec) where
   run_says : RunGives (cond (passed (refusal7 (first_bad (a ++ b)))) (ran n k limit edition a b) (none n k (refusal7 (first_bad (a ++ b)))))
   run_says = go (first_bad (a ++ b)) refl
     where
-      go : (y : Bad) → first_bad (a ++ b) ≡ y → RunGives (cond (passed (refusal7 y)) (ran n k limit edition a b) (none n k (refusal7 y)))
-      go (At i c) e = at_number (scan_first (at (a ++ b)) (length (a ++ b)) i c e)
-      go Nowhere e = ran_says (first_bad_none (a ++ b) e)
+      go : (y : Option Bad) → first_bad (a ++ b) ≡ y → RunGives (cond (passed (refusal7 y)) (ran n k limit edition a b) (none n k (refusal7 y)))
+      go (Some bad) e = at_number (scan_first (at (a ++ b)) (length (a ++ b)) bad.index bad.class e)
+      go None e = ran_says (first_bad_none (a ++ b) e)
 
   -- **lanczos_says**: a call that passes the checks gives what its steps say
   pub lanczos_says : (work x : Vec) → passed (checks n k limit edition (length a) (length b) (length work) (length x)) ≡ true
@@ -410,7 +405,7 @@ module _ (n k : ℕ) (a b : Vec) where
       go (bad_beta o i m g p q s) = absurd (true≢false (sym f ∙ sym (ap finite_b (one_fate i j g (no_beta p q) c (small e f h))) ∙ q))
 
 module _ (n k limit edition : ℕ) (a b : Vec) where
-  abbrev Run : Bad → Answer × Vec
+  abbrev Run : Option Bad → Answer × Vec
   Run y = cond (passed (refusal7 y)) (ran n k limit edition a b) (none n k (refusal7 y))
 
   taken_run : Finite (a ++ b) → Run (first_bad (a ++ b)) ≡ ran n k limit edition a b
@@ -433,10 +428,10 @@ module _ (n k limit edition : ℕ) (a b : Vec) where
   unfolding paired selected
   paired_looks m z = rw (eq-eqb (inner_of n k limit edition a b m).0.answer 0 z)
 
-  abbrev Looked : ℕ → ℕ → Vec → Bad → Answer × Vec
-  Looked f c x y = cond (is_bad y) (marked 6 c y, zeros (length x)) (answered 0 f 0 c, x)
+  abbrev Looked : ℕ → ℕ → Vec → Option Bad → Answer × Vec
+  Looked f c x y = cond (is_some y) (marked 6 c y, zeros (length x)) (answered 0 f 0 c, x)
 
-  looked_by : (f c : ℕ) (x : Vec) (y : Bad) → first_bad x ≡ y → looked f c x ≡ Looked f c x y
+  looked_by : (f c : ℕ) (x : Vec) (y : Option Bad) → first_bad x ≡ y → looked f c x ≡ Looked f c x y
   unfolding looked
   looked_by f c x y e = ap (Looked f c x) e
 
@@ -452,11 +447,11 @@ module _ (n k limit edition : ℕ) (a b : Vec) where
   says_is y (at_answer g s m l p z {i = i} {c = c} f) =
       let q = said_done n k a b m p in
       taken_run g ∙ ran_by true s ∙ sym (solved_goes n k limit edition a b g s q.0 m q.1) ∙ paired_looks m z
-      ∙ looked_by (least k m) (inner_of n k limit edition a b m).0.count (found_of n k limit edition a b m) (At i c) (first_scan (at (found_of n k limit edition a b m)) (length (found_of n k limit edition a b m)) i c f)
+      ∙ looked_by (least k m) (inner_of n k limit edition a b m).0.count (found_of n k limit edition a b m) (bad_at i c) (first_scan (at (found_of n k limit edition a b m)) (length (found_of n k limit edition a b m)) i c f)
   says_is y (found g s m l p z f) =
       let q = said_done n k a b m p in
       taken_run g ∙ ran_by true s ∙ sym (solved_goes n k limit edition a b g s q.0 m q.1) ∙ paired_looks m z
-      ∙ looked_by (least k m) (inner_of n k limit edition a b m).0.count (found_of n k limit edition a b m) Nowhere (first_bad_fine (found_of n k limit edition a b m) f)
+      ∙ looked_by (least k m) (inner_of n k limit edition a b m).0.count (found_of n k limit edition a b m) None (first_bad_fine (found_of n k limit edition a b m) f)
 
   -- **lanczos_exactly**: of a call that passes the checks: (r, x) is what it answers, and the array, exactly where its steps say that; and work is all +0.0
   lanczos_is : (work x : Vec) → passed (checks n k limit edition (length a) (length b) (length work) (length x)) ≡ true

@@ -1,7 +1,7 @@
 -- What `lanczos_limit` rests on: each part of `lanczos` at two limits. Laws only.
 use Rattle.std.specs.Prelude.{◌≡◌, Bool, true, false, cond, ◌++◌, ℕ, ◌+◌, ◌*◌, ◌≤◌, length, take, drop}
 use Rattle.std.proofs.Math.Path.{refl, ap}
-use Rattle.std.proofs.Common.{sym, ◌∙◌, arith, eqb-true}
+use Rattle.std.proofs.Common.{sym, arith, eqb-true}
 use Rattle.grid.specs.Real.{Vec, zeros}
 use Rattle.leaves.specs.Leaf.{is_finite}
 use Rattle.leaves.specs.Scan.{first_bad}

@@ -1,15 +1,14 @@
 -- Where the answer is 0, every number of the answer array is finite, and at most k pairs are found (`lanczos_finite_out`, `lanczos_pairs`). Laws only.
-use Rattle.std.specs.Prelude.{◌≡◌, refl, Bool, true, false, cond, ◌++◌, ℕ, ◌+◌, ◌*◌, ◌≤◌, ltb, length}
+use Rattle.leaves.specs.declared.Bad.{Bad}
+use Rattle.std.specs.Prelude.{◌≡◌, refl, Bool, true, false, cond, ◌++◌, ℕ, ◌+◌, ◌*◌, ◌≤◌, ltb, length, Option, Some, None, is_some}
 use Rattle.std.proofs.Common.{sym, ap, subst, ⊎_elim, arith, ltb-false}
 use Rattle.std.proofs.lemmas.Bool.{eqb-false}
 use Rattle.grid.specs.Real.{Vec, zeros}
 use Rattle.leaves.specs.Leaf.{is_finite}
 use Rattle.leaves.specs.Finite.{Finite}
 use Rattle.leaves.specs.FiniteLaws.{scan_finite}
-use Rattle.leaves.specs.Scan.{class_of, is_bad, first_bad}
+use Rattle.leaves.specs.Scan.{class_of, first_bad}
 use Rattle.leaves.specs.ScanLaws.{class_cases, scan_class}
-use Rattle.leaves.specs.declared.Bad.{Bad}
-use Rattle.leaves.specs.declared.Bad.TheVariants.{At, Nowhere}
 use Rattle.answers.specs.Answers.{answered, passed, refusal7, marked, least}
 use Rattle.answers.specs.declared.Answer.{Answer}
 use Rattle.gram_schmidt.specs.Gram.{norm}
@@ -40,9 +39,9 @@ looked_good : (k found count : ℕ) (x : Vec) → found ≤ k → Good k (looked
 unfolding looked
 looked_good k found count x l = go (first_bad x) refl
   where
-    go : (b : Bad) → first_bad x ≡ b → Good k (cond (is_bad b) (marked 6 count b, zeros (length x)) (answered 0 found 0 count, x))
-    go (At i c) e = refused_good k _ _ (λ (z : c ≡ 0). ⊎_elim (λ s. omega arith) (λ s. omega arith) (scan_class _ _ i c e))
-    go Nowhere e = record { finite = λ z. scan_finite x (ap is_bad e); pairs = λ z. l }
+    go : (b : Option Bad) → first_bad x ≡ b → Good k (cond (is_some b) (marked 6 count b, zeros (length x)) (answered 0 found 0 count, x))
+    go (Some bad) e = refused_good k _ _ (λ (z : bad.class ≡ 0). ⊎_elim (λ s. omega arith) (λ s. omega arith) (scan_class _ _ bad.index bad.class e))
+    go None e = record { finite = λ z. scan_finite x (ap is_some e); pairs = λ z. l }
 
 least_first : (k m : ℕ) → least k m ≤ k
 unfolding least

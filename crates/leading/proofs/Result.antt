@@ -1,6 +1,7 @@
 -- What `leading` comes back with, number by number. Laws only.
-use Rattle.std.specs.Prelude.{◌≡◌, refl, ◌++◌, Bool, true, false, cond, ℕ, zero, suc, ◌+◌, ◌-◌, ◌*◌, ◌≤◌, ◌<◌, length, drop}
-use Rattle.std.proofs.Common.{sym, ◌∙◌, subst, arith, eqb-true, length-drop}
+use Rattle.leaves.specs.declared.Bad.{Bad}
+use Rattle.std.specs.Prelude.{◌≡◌, refl, Bool, true, false, cond, ℕ, zero, suc, ◌+◌, ◌-◌, ◌*◌, ◌≤◌, ◌<◌, length, drop, Option, Some, None}
+use Rattle.std.proofs.Common.{sym, ◌∙◌, subst, arith, eqb-true}
 use Rattle.std.proofs.Math.Path.{ap}
 use Rattle.std.proofs.lemmas.Bool.{eqb-false}
 use Rattle.std.specs.Float.Ieee.{nan, le}
@@ -15,9 +16,7 @@ use Rattle.leaves.specs.Finite.{Finite}
 use Rattle.leaves.specs.FiniteLaws.{both_finite}
 use Rattle.leaves.specs.Scan.{first_bad}
 use Rattle.leaves.specs.ScanLaws.{first_bad_none, first_bad_fine}
-use Rattle.leaves.specs.declared.Bad.{Bad}
-use Rattle.leaves.specs.declared.Bad.TheVariants.{At, Nowhere}
-use Rattle.answers.specs.Answers.{done, passed, unless_bad}
+use Rattle.answers.specs.Answers.{passed, unless_bad}
 use Rattle.answers.proofs.OutcomeLaws.{same_bad}
 use Rattle.answers.specs.declared.Answer.{Answer}
 use Rattle.gram_schmidt.specs.Gram.{column_of}
@@ -44,10 +43,10 @@ pub leading_taken : (n k : ℕ) (v x : Vec) → (leading n k v x).0.answer ≡ 0
 unfolding leading
 leading_taken n k v x = go (checks n k (length v) (length x)) refl (passed (checks n k (length v) (length x))) refl (first_bad v) refl
   where
-    go : (c : Answer) → c ≡ checks n k (length v) (length x) → (p : Bool) → passed c ≡ p → (b : Bad) → first_bad v ≡ b
+    go : (c : Answer) → c ≡ checks n k (length v) (length x) → (p : Bool) → passed c ≡ p → (b : Option Bad) → first_bad v ≡ b
         → (cond p (unless_bad b x (given n k v)) (c, x)).0.answer ≡ 0 → Taken n k v x
-    go c e true f Nowhere g h = record { fits = checked n k (length v) (length x) e (eqb-true c.answer 0 f); finite = first_bad_none v g }
-    go c e true f (At i d) g h = absurd (omega arith)
+    go c e true f None g h = record { fits = checked n k (length v) (length x) e (eqb-true c.answer 0 f); finite = first_bad_none v g }
+    go c e true f (Some bad) g h = absurd (omega arith)
     go c e false f b g h = absurd (eqb-false c.answer 0 f h)
 
 -- ---- what out held before

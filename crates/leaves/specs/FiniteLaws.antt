@@ -1,5 +1,5 @@
 -- The scans say that a list is finite, and a list that is not has a number that is not. Laws only.
-use Rattle.std.specs.Prelude.{◌≡◌, ◌⊎◌, ◌++◌, Bool, true, false, cond, ◌&&◌, leb}
+use Rattle.std.specs.Prelude.{◌≡◌, ◌⊎◌, ◌++◌, Bool, true, false, cond, ◌&&◌, leb, None, is_some}
 use Rattle.std.proofs.Math.Path.{refl}
 use Rattle.std.proofs.Common.{sym, ap, ◌∙◌, subst, inl, inr, true≢false, div-add-mod', mod-lt, div-lt_iff_lt-mul, div-mul-le_self, mul-div_cancel, mul_comm, zero-mul, arith, le-leb, leb-true, length-append, get_or-append-add}
 use Prim.Native.Nat.{ℕ, zero, suc, ◌+◌, ◌*◌, ◌/◌, ◌%◌, ◌≤◌, ◌<◌}
@@ -14,9 +14,8 @@ use Rattle.grid.specs.CellLaws.{cell, place_row, place_column}
 use Rattle.grid.specs.TableLaws.{length_table, at_table}
 use Rattle.leaves.specs.Leaf.{is_finite}
 use Rattle.leaves.specs.Finite.{Finite, NotFinite}
-use Rattle.leaves.specs.Scan.{is_bad, first_bad, first_bad_lower, by_rows, place_of, lower_of}
+use Rattle.leaves.specs.Scan.{first_bad, first_bad_lower, by_rows, place_of, lower_of}
 use Rattle.leaves.specs.ScanLaws.{scan_none, scan_fine, first_bad_none, first_bad_fine, not_bad, scan_both, cell_at, lower_at}
-use Rattle.leaves.specs.declared.Bad.TheVariants.{Nowhere}
 
 -- that all are finite, looked at one by one
 abbrev pub all_step : Vec → ℕ → Bool → Bool
@@ -25,11 +24,11 @@ all_step d k all = all && is_finite (at d k)
 unfoldable pub all_finite : Vec → Bool
 all_finite d = upto (all_step d) 0 (length d) true
 
-pub scan_finite : (d : Vec) → is_bad (first_bad d) ≡ false → Finite d
+pub scan_finite : (d : Vec) → is_some (first_bad d) ≡ false → Finite d
 scan_finite d h = first_bad_none d (not_bad (first_bad d) h)
 
-pub finite_scan : (d : Vec) → Finite d → is_bad (first_bad d) ≡ false
-finite_scan d h = ap is_bad (first_bad_fine d h)
+pub finite_scan : (d : Vec) → Finite d → is_some (first_bad d) ≡ false
+finite_scan d h = ap is_some (first_bad_fine d h)
 
 -- ---- a worked-on matrix: its cells, in whatever order they are looked at, are all the numbers of the list
 
@@ -108,7 +107,7 @@ zero_finite : is_finite zero64 ≡ true
 unfolding of_bits is_finite
 zero_finite = refl
 
-pub none_lower : (n : ℕ) (a : Vec) → length a ≡ n * n → ((i j : ℕ) → j ≤ i → i < n → is_finite (entry a n i j) ≡ true) → first_bad_lower n a ≡ Nowhere
+pub none_lower : (n : ℕ) (a : Vec) → length a ≡ n * n → ((i j : ℕ) → j ≤ i → i < n → is_finite (entry a n i j) ≡ true) → first_bad_lower n a ≡ None
 unfolding first_bad_lower lower_of place_of
 none_lower zero a l h = scan_fine (lower_at zero a) (length a) (λ k m. absurd (omega arith))
 none_lower (suc n) a l h = scan_fine (lower_at (suc n) a) (length a) (λ k m. one k (subst (λ (x : ℕ). k < x) l m) (leb (k % suc n) (k / suc n)) refl)
@@ -120,7 +119,7 @@ none_lower (suc n) a l h = scan_fine (lower_at (suc n) a) (length a) (λ k m. on
         rw e (subst (λ (x : ℕ). is_finite (at a x) ≡ true) (div-add-mod' k (suc n)) s)
     one k m false e = rw e zero_finite
 
-pub lower_finite : (n : ℕ) (a : Vec) → length a ≡ n * n → first_bad_lower n a ≡ Nowhere → (i j : ℕ) → j ≤ i → i < n → is_finite (entry a n i j) ≡ true
+pub lower_finite : (n : ℕ) (a : Vec) → length a ≡ n * n → first_bad_lower n a ≡ None → (i j : ℕ) → j ≤ i → i < n → is_finite (entry a n i j) ≡ true
 unfolding first_bad_lower lower_of place_of
 lower_finite n a l e i j p q =
     let r = place_row n i j (omega arith) in
@@ -149,8 +148,8 @@ pub not_finite : (d : Vec) → (Finite d → ⊥) → NotFinite d
 not_finite d = all_or_some (λ k. is_finite (at d k)) (length d)
 
 pub one_of_two : (d e : Vec) → (Finite d → Finite e → ⊥) → NotFinite d ⊎ NotFinite e
-one_of_two d e h = go (is_bad (first_bad d)) refl
+one_of_two d e h = go (is_some (first_bad d)) refl
   where
-    go : (b : Bool) → is_bad (first_bad d) ≡ b → NotFinite d ⊎ NotFinite e
+    go : (b : Bool) → is_some (first_bad d) ≡ b → NotFinite d ⊎ NotFinite e
     go true q = inl (not_finite d (λ f. true≢false (sym q ∙ finite_scan d f)))
     go false q = inr (not_finite e (λ g. h (scan_finite d q) g))

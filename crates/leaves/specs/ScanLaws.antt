@@ -1,5 +1,7 @@
 -- What a scan says, and how its code counts. Laws only.
-use Rattle.std.specs.Prelude.{◌≡◌, refl, ◌⊎◌, ◌++◌, Bool, true, false, cond, not, ℕ, zero, suc, ◌+◌, ◌-◌, ◌*◌, ◌/◌, ◌%◌, ◌^◌, ◌<◌, ◌≤◌, leb, ltb, eqb, Float, length}
+use Rattle.leaves.specs.declared.Bad.{Bad}
+use Rattle.std.specs.Prelude.{◌≡◌, refl, ◌⊎◌, ◌++◌, Bool, true, false, cond, not, ℕ, zero, suc, ◌+◌, ◌-◌, ◌*◌, ◌/◌, ◌%◌, ◌^◌, ◌<◌, ◌≤◌, leb, ltb, eqb, Float, length, Option, Some, None, is_some}
+use Rattle.std.specs.Option.{option_or}
 use Rattle.std.proofs.Common.{sym, ap, ◌∙◌, subst, inl, inr, ⊎_elim, true≢false, div-add-mod', div-lt_iff_lt-mul, eq-or-lt_of_le, arith, ltb-true, ltb-false, leb-true, le-ltb, length-append, get_or-append-add}
 use Rattle.std.proofs.Math.Decide.{ℕ_discrete, dec_lt}
 use Rattle.std.proofs.lemmas.Bool.{not-false}
@@ -11,20 +13,18 @@ use Rattle.grid.specs.Cell.{entry, at2}
 use Rattle.grid.specs.Table.{table}
 use Rattle.grid.specs.TableLaws.{length_table, at_table}
 use Rattle.leaves.specs.Leaf.{is_finite}
-use Rattle.leaves.specs.Scan.{class_of, is_bad, scan, first_bad, first_bad_lower, by_rows, place_of, lower_of}
+use Rattle.leaves.specs.Scan.{class_of, scan, first_bad, first_bad_lower, by_rows, place_of, lower_of, bad_at}
 use Rattle.leaves.specs.Finite.{Finite, First}
-use Rattle.leaves.specs.declared.Bad.{Bad}
-use Rattle.leaves.specs.declared.Bad.TheVariants.{At, Nowhere}
 use Rattle.leaves.specs.declared.Place.{Place}
 
 -- the parts of what is found
-index_of : Bad → ℕ
-index_of (At k c) = k
-index_of Nowhere = 0
+index_of : Option Bad → ℕ
+index_of (Some bad) = bad.index
+index_of None = 0
 
-kind_of : Bad → ℕ
-kind_of (At k c) = c
-kind_of Nowhere = 0
+kind_of : Option Bad → ℕ
+kind_of (Some bad) = bad.class
+kind_of None = 0
 
 not-true : (b : Bool) → not b ≡ true → b ≡ false
 not-true true e = absurd (true≢false (sym e))
@@ -63,42 +63,42 @@ seek_never a zero = omega arith
 seek_never a (suc k) = seek_never (a + 1) k ∙ omega arith
 
 -- a search among n numbers x ended at k
-abbrev pub found : (ℕ → Float) → ℕ → ℕ → Bad
-found x k n = cond (ltb k n) (At k (class_of (x k))) Nowhere
+abbrev pub found : (ℕ → Float) → ℕ → ℕ → Option Bad
+found x k n = cond (ltb k n) (bad_at k (class_of (x k))) None
 
-found_out : (x : ℕ → Float) (r n : ℕ) → found x r n ≡ Nowhere → n ≤ r
+found_out : (x : ℕ → Float) (r n : ℕ) → found x r n ≡ None → n ≤ r
 found_out x r n e = go (ltb r n) refl
   where
     go : (b : Bool) → ltb r n ≡ b → n ≤ r
-    go true g = absurd (true≢false (ap is_bad (rw g at e)))
+    go true g = absurd (true≢false (ap is_some (rw g at e)))
     go false g = ltb-false r n g
 
-pub nowhere : (p : ℕ → Bool) (x : ℕ → Float) (n : ℕ) → found x (first p 0 n) n ≡ Nowhere → (k : ℕ) → k < n → p k ≡ false
+pub nowhere : (p : ℕ → Bool) (x : ℕ → Float) (n : ℕ) → found x (first p 0 n) n ≡ None → (k : ℕ) → k < n → p k ≡ false
 unfolding first
 nowhere p x n e k h = seek_none p 0 (n - 0) (omega (arith, found_out x (first p 0 n) n e)) k (omega arith) (omega arith)
 
-pub never : (p : ℕ → Bool) (x : ℕ → Float) (n : ℕ) → ((k : ℕ) → k < n → p k ≡ false) → found x (first p 0 n) n ≡ Nowhere
+pub never : (p : ℕ → Bool) (x : ℕ → Float) (n : ℕ) → ((k : ℕ) → k < n → p k ≡ false) → found x (first p 0 n) n ≡ None
 unfolding first
 never p x n h = rw (first_same p (λ k. false) n h, seek_never 0 (n - 0)) (rw (le-ltb (0 + (n - 0)) n (omega arith)))
 
-pub not_bad : (b : Bad) → is_bad b ≡ false → b ≡ Nowhere
-not_bad (At k c) e = absurd (true≢false e)
-not_bad Nowhere e = refl
+pub not_bad : (b : Option Bad) → is_some b ≡ false → b ≡ None
+not_bad (Some bad) e = absurd (true≢false e)
+not_bad None e = refl
 
 -- ---- nothing is found exactly where all is finite
 
-pub scan_none : (x : ℕ → Float) (n : ℕ) → scan x n ≡ Nowhere → (k : ℕ) → k < n → is_finite (x k) ≡ true
+pub scan_none : (x : ℕ → Float) (n : ℕ) → scan x n ≡ None → (k : ℕ) → k < n → is_finite (x k) ≡ true
 unfolding scan
 scan_none x n e k h = not-false _ (nowhere (λ k. not (is_finite (x k))) x n e k h)
 
-pub scan_fine : (x : ℕ → Float) (n : ℕ) → ((k : ℕ) → k < n → is_finite (x k) ≡ true) → scan x n ≡ Nowhere
+pub scan_fine : (x : ℕ → Float) (n : ℕ) → ((k : ℕ) → k < n → is_finite (x k) ≡ true) → scan x n ≡ None
 unfolding scan
 scan_fine x n h = never (λ k. not (is_finite (x k))) x n (λ k l. ap not (h k l))
 
-pub first_bad_none : (d : Vec) → first_bad d ≡ Nowhere → Finite d
+pub first_bad_none : (d : Vec) → first_bad d ≡ None → Finite d
 first_bad_none d = scan_none (at d) (length d)
 
-pub first_bad_fine : (d : Vec) → Finite d → first_bad d ≡ Nowhere
+pub first_bad_fine : (d : Vec) → Finite d → first_bad d ≡ None
 first_bad_fine d = scan_fine (at d) (length d)
 
 -- ---- what is found is the first, and the first is found
@@ -118,7 +118,7 @@ seek_first p a (suc k) h = go (p a) refl (λ g. seek_first p (a + 1) k g)
         let w = later (omega arith) in
         rw e (w.0, λ j l m. ⊎_elim (λ (q : a ≡ j). rw (← q) e) (λ q. w.1 j (omega arith) m) (eq-or-lt_of_le l))
 
-pub scan_first : (x : ℕ → Float) (n i c : ℕ) → scan x n ≡ At i c → First x n i c
+pub scan_first : (x : ℕ → Float) (n i c : ℕ) → scan x n ≡ bad_at i c → First x n i c
 unfolding scan first index_of kind_of
 scan_first x n i c e = go (ltb r n) refl
   where
@@ -131,7 +131,7 @@ scan_first x n i c e = go (ltb r n) refl
     go : (b : Bool) → ltb r n ≡ b → First x n i c
     go true g =
         let h : r < n = ltb-true r n g in
-        let f : At r (class_of (x r)) ≡ At i c = rw g at e in
+        let f : bad_at r (class_of (x r)) ≡ bad_at i c = rw g at e in
         let w = seek_first p 0 (n - 0) (omega arith) in
         let q : r ≡ i = ap index_of f in
         let s : class_of (x r) ≡ c = ap kind_of f in
@@ -141,12 +141,12 @@ scan_first x n i c e = go (ltb r n) refl
           class = sym s ∙ ap (λ (k : ℕ). class_of (x k)) q;
           before = λ k l. not-false _ (w.1 k (omega arith) (rw q l));
         }
-    go false g = absurd (true≢false (sym (ap is_bad (rw g at e))))
+    go false g = absurd (true≢false (sym (ap is_some (rw g at e))))
 
 -- one at most is the first
-pub first_once : (x : ℕ → Float) (n i c j d : ℕ) → First x n i c → First x n j d → At i c ≡ At j d
+pub first_once : (x : ℕ → Float) (n i c j d : ℕ) → First x n i c → First x n j d → bad_at i c ≡ bad_at j d
 first_once x n i c j d f g = elim (ℕ_discrete i j) [
-  | yes e ↦ (λ k. At (e k) (h e k))
+  | yes e ↦ (λ k. bad_at (e k) (h e k))
   | no e ↦ elim (dec_lt i j) [
     | yes l ↦ absurd (true≢false (sym (g.before i l) ∙ f.seen))
     | no l ↦ absurd (true≢false (sym (f.before j (below e l)) ∙ g.seen))
@@ -159,12 +159,12 @@ first_once x n i c j d f g = elim (ℕ_discrete i j) [
     below : (i ≡ j → ⊥) → (i < j → ⊥) → j < i
     below a b = omega arith
 
-pub first_scan : (x : ℕ → Float) (n i c : ℕ) → First x n i c → scan x n ≡ At i c
+pub first_scan : (x : ℕ → Float) (n i c : ℕ) → First x n i c → scan x n ≡ bad_at i c
 first_scan x n i c f = go (scan x n) refl
   where
-    go : (b : Bad) → scan x n ≡ b → scan x n ≡ At i c
-    go (At j d) e = e ∙ first_once x n j d i c (scan_first x n j d e) f
-    go Nowhere e = absurd (true≢false (sym (scan_none x n e i f.within) ∙ f.seen))
+    go : (b : Option Bad) → scan x n ≡ b → scan x n ≡ bad_at i c
+    go (Some bad) e = e ∙ first_once x n bad.index bad.class i c (scan_first x n bad.index bad.class e) f
+    go None e = absurd (true≢false (sym (scan_none x n e i f.within) ∙ f.seen))
 
 -- ---- two scans of the same numbers
 
@@ -174,29 +174,25 @@ scan_same x y n h = go (scan y n) refl
     earlier : {k i : ℕ} → k < i → i < n → k < n
     earlier a b = omega arith
 
-    go : (b : Bad) → scan y n ≡ b → scan x n ≡ scan y n
-    go (At i c) e =
-        let f = scan_first y n i c e in
-        first_scan x n i c (record {
+    go : (b : Option Bad) → scan y n ≡ b → scan x n ≡ scan y n
+    go (Some bad) e =
+        let f = scan_first y n bad.index bad.class e in
+        first_scan x n bad.index bad.class (record {
           within = f.within;
-          seen = ap is_finite (h i f.within) ∙ f.seen;
-          class = f.class ∙ ap class_of (sym (h i f.within));
+          seen = ap is_finite (h bad.index f.within) ∙ f.seen;
+          class = f.class ∙ ap class_of (sym (h bad.index f.within));
           before = λ k l. ap is_finite (h k (earlier l f.within)) ∙ f.before k l;
         }) ∙ sym e
-    go Nowhere e = scan_fine x n (λ k l. ap is_finite (h k l) ∙ scan_none y n e k l) ∙ sym e
+    go None e = scan_fine x n (λ k l. ap is_finite (h k l) ∙ scan_none y n e k l) ∙ sym e
 
 -- ---- one list behind another
 
--- the first found, or else the second's, counted behind so many
-abbrev pub or_else : Bad → Bad → Bad
-or_else (At k c) b = At k c
-or_else Nowhere b = b
+-- what was found, counted behind so many other numbers
+abbrev pub behind : ℕ → Option Bad → Option Bad
+behind before (Some bad) = bad_at (before + bad.index) bad.class
+behind before None = None
 
-abbrev pub behind : ℕ → Bad → Bad
-behind before (At i c) = At (before + i) c
-behind before Nowhere = Nowhere
-
-pub scan_both : (d e : Vec) → first_bad (d ++ e) ≡ or_else (first_bad d) (behind (length d) (first_bad e))
+pub scan_both : (d e : Vec) → first_bad (d ++ e) ≡ option_or (first_bad d) (behind (length d) (first_bad e))
 scan_both d e = go (first_bad d) refl (first_bad e) refl
   where
     long : length (d ++ e) ≡ length d + length e
@@ -208,32 +204,32 @@ scan_both d e = go (first_bad d) refl (first_bad e) refl
     back : (k : ℕ) → at (d ++ e) (length d + k) ≡ at e k
     back k = get_or-append-add d e k nan
 
-    go : (a : Bad) → first_bad d ≡ a → (b : Bad) → first_bad e ≡ b → first_bad (d ++ e) ≡ or_else a (behind (length d) b)
-    go (At i c) p b q =
-        let f = scan_first (at d) (length d) i c p in
-        first_scan (at (d ++ e)) (length (d ++ e)) i c (record {
+    go : (a : Option Bad) → first_bad d ≡ a → (b : Option Bad) → first_bad e ≡ b → first_bad (d ++ e) ≡ option_or a (behind (length d) b)
+    go (Some bad) p b q =
+        let f = scan_first (at d) (length d) bad.index bad.class p in
+        first_scan (at (d ++ e)) (length (d ++ e)) bad.index bad.class (record {
           within = omega (arith, long, f.within);
-          seen = ap is_finite (front i f.within) ∙ f.seen;
-          class = f.class ∙ ap class_of (sym (front i f.within));
+          seen = ap is_finite (front bad.index f.within) ∙ f.seen;
+          class = f.class ∙ ap class_of (sym (front bad.index f.within));
           before = λ k l. ap is_finite (front k (omega (arith, f.within))) ∙ f.before k l;
         })
-    go Nowhere p (At i c) q =
-        let f = scan_first (at e) (length e) i c q in
-        first_scan (at (d ++ e)) (length (d ++ e)) (length d + i) c (record {
+    go None p (Some bad) q =
+        let f = scan_first (at e) (length e) bad.index bad.class q in
+        first_scan (at (d ++ e)) (length (d ++ e)) (length d + bad.index) bad.class (record {
           within = omega (arith, long, f.within);
-          seen = ap is_finite (back i) ∙ f.seen;
-          class = f.class ∙ ap class_of (sym (back i));
+          seen = ap is_finite (back bad.index) ∙ f.seen;
+          class = f.class ∙ ap class_of (sym (back bad.index));
           before = λ k l. earlier k l f.before;
         })
       where
-        earlier : (k : ℕ) → k < length d + i → ((j : ℕ) → j < i → is_finite (at e j) ≡ true) → is_finite (at (d ++ e) k) ≡ true
+        earlier : (k : ℕ) → k < length d + bad.index → ((j : ℕ) → j < bad.index → is_finite (at e j) ≡ true) → is_finite (at (d ++ e) k) ≡ true
         earlier k l f = elim (dec_lt k (length d)) [
           | yes a ↦ ap is_finite (front k a) ∙ first_bad_none d p k a
           | no a ↦
               let h : length d + (k - length d) ≡ k = omega arith in
               ap (λ (j : ℕ). is_finite (at (d ++ e) j)) (sym h) ∙ ap is_finite (back (k - length d)) ∙ f (k - length d) (omega arith)
         ]
-    go Nowhere p Nowhere q = first_bad_fine (d ++ e) (λ k l. elim (dec_lt k (length d)) [
+    go None p None q = first_bad_fine (d ++ e) (λ k l. elim (dec_lt k (length d)) [
       | yes a ↦ ap is_finite (front k a) ∙ first_bad_none d p k a
       | no a ↦
           let h : length d + (k - length d) ≡ k = omega arith in
@@ -246,7 +242,7 @@ scan_both d e = go (first_bad d) refl (first_bad e) refl
 abbrev pub cell_at : ℕ → ℕ → Vec → ℕ → Float
 cell_at rows cols v k = at2 v rows (place_of cols k).i (place_of cols k).j
 
-unfoldable pub first_bad_of : ℕ → ℕ → Vec → Bad
+unfoldable pub first_bad_of : ℕ → ℕ → Vec → Option Bad
 first_bad_of rows cols v = scan (cell_at rows cols v) (rows * cols)
 
 pub by_rows_lem : (cols : ℕ) (v : Vec) → first_bad_of (length v / cols) cols v ≡ first_bad (by_rows cols v)
@@ -258,16 +254,16 @@ by_rows_lem cols v =
 
 -- ---- room behind so many numbers
 
-abbrev pub Room : ℕ → Bad → Type 0
-Room before (At i c) = before + i < 2 ^ 64
-Room before Nowhere = Unit
+abbrev pub Room : ℕ → Option Bad → Type 0
+Room before (Some bad) = before + bad.index < 2 ^ 64
+Room before None = Unit
 
 pub room_of_lem : (before n : ℕ) (x : ℕ → Float) → before + n ≤ 2 ^ 64 → Room before (scan x n)
 room_of_lem before n x h = go (scan x n) refl
   where
-    go : (b : Bad) → scan x n ≡ b → Room before b
-    go (At i c) e = omega (arith, (scan_first x n i c e).within)
-    go Nowhere e = tt
+    go : (b : Option Bad) → scan x n ≡ b → Room before b
+    go (Some bad) e = omega (arith, (scan_first x n bad.index bad.class e).within)
+    go None e = tt
 
 -- a mark answers 8 or 10
 pub class_cases : (x : Float) → (class_of x ≡ 8) ⊎ (class_of x ≡ 10)
@@ -279,7 +275,7 @@ class_cases (fin s m e) = inl refl
 pub first_class : (x : ℕ → Float) (n i c : ℕ) → First x n i c → (c ≡ 8) ⊎ (c ≡ 10)
 first_class x n i c f = subst (λ (k : ℕ). (k ≡ 8) ⊎ (k ≡ 10)) (sym f.class) (class_cases (x i))
 
-pub scan_class : (x : ℕ → Float) (n i c : ℕ) → scan x n ≡ At i c → (c ≡ 8) ⊎ (c ≡ 10)
+pub scan_class : (x : ℕ → Float) (n i c : ℕ) → scan x n ≡ bad_at i c → (c ≡ 8) ⊎ (c ≡ 10)
 scan_class x n i c e = first_class x n i c (scan_first x n i c e)
 
 pub fine_no_first : (d : Vec) (i c : ℕ) → Finite d → First (at d) (length d) i c → ⊥

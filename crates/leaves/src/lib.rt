@@ -5,15 +5,15 @@ pub mod scan; // The first number that is not finite, of a list, of a matrix, or
 
 ghost use Rattle.std.specs.Prelude.{◌≡◌};
 ghost use Rattle.leaves.specs.Leaf.{magnitude, larger, is_finite, hypot_of, hypot};
-ghost use Rattle.leaves.specs.Scan.{class_of, is_bad};
+ghost use Rattle.leaves.specs.Scan.{class_of};
 
 use root::root;
 
-// What a scan found: the index of the first number that is not finite, and its class, 8 or 10.
+// A number that is not finite: its index, and its class, which is what a mark answers for it: a number, since the theorems of marks speak of it as one.
 #[derive(Clone, Copy)]
-pub enum Bad {
-    At(usize, usize),
-    Nowhere,
+pub struct Bad {
+    pub index: usize,
+    pub class: usize,
 }
 
 // Row i, column j.
@@ -72,15 +72,6 @@ pub fn hypot(x: f64, y: f64) -> f64
         hypot_of(q, p)
     } else {
         hypot_of(p, q)
-    }
-}
-
-pub fn is_bad(b: Bad) -> bool
-    ensures { result ≡ is_bad b }
-{
-    match b {
-        Bad::At(_, _) => true,
-        Bad::Nowhere => false,
     }
 }
 

@@ -4,18 +4,18 @@ ghost use Rattle.leaves.specs.FiniteLaws.{all_finite};
 ghost use Rattle.leaves.specs.Scan.{first_bad, lower_of, first_bad_lower, by_rows};
 ghost use Rattle.leaves.specs.ScanLaws.{after, first_bad_of, behind, Room};
 
-use crate::{Bad, Place, class_of, is_bad, is_finite};
-use grid::at1;
+use crate::{Bad, Place, class_of, is_finite};
 
 // What was found, counted behind so many other numbers.
-pub fn behind(before: usize, b: Bad) -> Bad
+pub fn behind(before: usize, b: Option<Bad>) -> Option<Bad>
     requires { Room before b }
     ensures { result ≡ behind before b }
 {
-    match b {
-        Bad::At(i, c) => Bad::At(before + i, c),
-        Bad::Nowhere => Bad::Nowhere,
-    }
+    let bad = b?;
+    Some(Bad {
+        index: before + bad.index,
+        ..bad
+    })
 }
 
 // Whether all of d is finite: each number is looked at, with no branch on any, so that several are tested at once. The scans below ask this first, and walk only
@@ -24,43 +24,41 @@ fn all_finite(d: &[f64]) -> bool
     ensures { result ≡ all_finite d.now }
 {
     let mut all = true;
-    for k in 0..d.len() {
-        all = all & is_finite(at1(d, k));
+    for &x in d {
+        all = all & is_finite(x);
     }
     all
 }
 
-fn walk(d: &[f64]) -> Bad
+fn walk(d: &[f64]) -> Option<Bad>
     ensures { result ≡ first_bad d.now }
 {
-    for k in 0..d.len() {
-        let x = at1(d, k);
+    for (k, &x) in d.iter().enumerate() {
         if !is_finite(x) {
-            return Bad::At(k, class_of(x));
+            return Some(Bad {
+                index: k,
+                class: class_of(x),
+            });
         }
     }
-    Bad::Nowhere
+    None
 }
 
 // The first number of d that is not finite.
-pub fn first_bad(d: &[f64]) -> Bad
+pub fn first_bad(d: &[f64]) -> Option<Bad>
     ensures { result ≡ first_bad d.now }
 {
     if all_finite(d) {
-        return Bad::Nowhere;
+        return None;
     }
     walk(d)
 }
 
 // The first number that is not finite of d, or else of e, counted on behind those of d.
-pub fn first_bad_of_both(d: &[f64], e: &[f64]) -> Bad
+pub fn first_bad_of_both(d: &[f64], e: &[f64]) -> Option<Bad>
     ensures { result ≡ first_bad (d.now ++ e.now) }
 {
-    let b = first_bad(d);
-    if is_bad(b) {
-        return b;
-    }
-    behind(d.len(), first_bad(e))
+    first_bad(d).or(behind(d.len(), first_bad(e)))
 }
 
 // The place after p, row by row, where n are in a row.
@@ -71,68 +69,71 @@ fn after(n: usize, p: Place) -> Place
     if p.j + 1 == n {
         return Place { i: p.i + 1, j: 0 };
     }
-    Place { i: p.i, j: p.j + 1 }
+    Place { j: p.j + 1, ..p }
 }
 
 // What is read of the number x at p: what stands above the diagonal counts as 0.
 fn lower_of(p: Place, x: f64) -> f64
     ensures { result ≡ lower_of p x }
 {
-    if p.j <= p.i {
-        return x;
-    }
-    0.0
+    if p.j <= p.i { x } else { 0.0 }
 }
 
-fn walk_lower(n: usize, a: &[f64]) -> Bad
+fn walk_lower(n: usize, a: &[f64]) -> Option<Bad>
     ensures { result ≡ first_bad_lower n a.now }
 {
     let mut p = Place { i: 0, j: 0 };
-    for k in 0..a.len() {
-        let x = lower_of(p, at1(a, k));
-        if !is_finite(x) {
-            return Bad::At(k, class_of(x));
+    for (k, &x) in a.iter().enumerate() {
+        let y = lower_of(p, x);
+        if !is_finite(y) {
+            return Some(Bad {
+                index: k,
+                class: class_of(y),
+            });
         }
         p = after(n, p);
     }
-    Bad::Nowhere
+    None
 }
 
 // The first number that is not finite on and below the diagonal of the matrix a, which stands row by row with n in a row.
-pub fn first_bad_lower(n: usize, a: &[f64]) -> Bad
+pub fn first_bad_lower(n: usize, a: &[f64]) -> Option<Bad>
     ensures { result ≡ first_bad_lower n a.now }
 {
     if all_finite(a) {
-        return Bad::Nowhere;
+        return None;
     }
     walk_lower(n, a)
 }
 
 // The first number that is not finite of the matrix v, which stands column by column, counted row by row.
-fn first_bad_of(rows: usize, cols: usize, v: &[f64]) -> Bad
+fn first_bad_of(rows: usize, cols: usize, v: &[f64]) -> Option<Bad>
     requires { rows * cols ≤ length v.now }
     ensures { result ≡ first_bad_of rows cols v.now }
 {
     let mut p = Place { i: 0, j: 0 };
     for k in 0..rows * cols {
-        let x = at1(v, p.j * rows + p.i);
+        let x = v[p.j * rows + p.i];
         if !is_finite(x) {
-            return Bad::At(k, class_of(x));
+            return Some(Bad {
+                index: k,
+                class: class_of(x),
+            });
         }
         p = after(cols, p);
     }
-    Bad::Nowhere
+    None
 }
 
 // The same of a matrix with that many columns, and as many rows as fill its length.
-pub fn first_bad_cell(cols: usize, v: &[f64]) -> Bad
+pub fn first_bad_cell(cols: usize, v: &[f64]) -> Option<Bad>
     ensures { result ≡ first_bad (by_rows cols v.now) }
 {
     if all_finite(v) {
-        return Bad::Nowhere;
+        return None;
     }
     if cols == 0 {
-        return Bad::Nowhere;
+        return None;
     }
     first_bad_of(v.len() / cols, cols, v)
 }

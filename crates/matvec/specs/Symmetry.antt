@@ -1,6 +1,6 @@
 -- A symmetric matrix: its rows are its columns, so that a product is its rows added up, each number of it in the same order. Laws only.
 -- What stands here is what the code does on the way; no public promise cites it.
-use Rattle.std.specs.Prelude.{◌≡◌, ℕ, ◌+◌, ◌<◌, ◌≤◌, Float}
+use Rattle.std.specs.Prelude.{◌≡◌, ℕ, ◌+◌, ◌-◌, ◌<◌, ◌≤◌, Float}
 use Rattle.std.proofs.Common.{sym, ap, ◌∙◌, subst, arith}
 use Rattle.std.proofs.Math.Decide.{ℕ_discrete, dec_lt}
 use Rattle.grid.specs.LoopLaws.{upto_same}
@@ -34,11 +34,8 @@ symmetric_of n a h i j p q = elim (dec_lt j i) [
 -- ---- four rows at a time
 
 -- number j of rows i to i + 3, and number i to i + 3 of row j
-pub record Fours (n : ℕ) (a : Vec) (i j : ℕ) : Type 0 where
-  pub first : entry a n i j ≡ entry a n j i
-  pub second : entry a n (i + 1) j ≡ entry a n j (i + 1)
-  pub third : entry a n (i + 2) j ≡ entry a n j (i + 2)
-  pub fourth : entry a n (i + 3) j ≡ entry a n j (i + 3)
+abbrev pub Fours : ℕ → Vec → ℕ → ℕ → Type 0
+Fours n a i j = (k : ℕ) → k < 4 → entry a n (i + k) j ≡ entry a n j (i + k)
 
 pub one_further : (P : ℕ → Type 0) (j : ℕ) → ((k : ℕ) → k < j → P k) → P j → (k : ℕ) → k < j + 1 → P k
 one_further P j h p k l = elim (ℕ_discrete k j) [
@@ -50,24 +47,14 @@ one_further P j h p k l = elim (ℕ_discrete k j) [
 pub four_rows : (n : ℕ) (a : Vec) (i c : ℕ) → c ≤ i → ((k : ℕ) → k < i → Row n a k) → ((j : ℕ) → j < c + 3 → Fours n a c j) → (k : ℕ) → k < c + 4 → Row n a k
 four_rows n a i c p h f k l = elim (dec_lt k c) [
   | yes m ↦ h k (omega (arith, m))
-  | no m ↦ elim (ℕ_discrete k c) [
-    | yes e ↦ subst (Row n a) (sym e) (λ j q. (f j (omega arith)).first)
-    | no d ↦ elim (ℕ_discrete k (c + 1)) [
-      | yes e ↦ subst (Row n a) (sym e) (λ j q. (f j (omega arith)).second)
-      | no d1 ↦ elim (ℕ_discrete k (c + 2)) [
-        | yes e ↦ subst (Row n a) (sym e) (λ j q. (f j (omega arith)).third)
-        | no d2 ↦ subst (Row n a) (sym (last m d d1 d2)) (λ j q. (f j (omega arith)).fourth)
-      ]
-    ]
-  ]
+  | no m ↦ (λ j q. subst (λ (r : ℕ). entry a n r j ≡ entry a n j r) (back m) (f j (omega arith) (k - c) (omega (arith, l))))
 ]
   where
-    last : (k < c → ⊥) → (k ≡ c → ⊥) → (k ≡ c + 1 → ⊥) → (k ≡ c + 2 → ⊥) → k ≡ c + 3
-    last m d d1 d2 = omega arith
+    back : (k < c → ⊥) → c + (k - c) ≡ k
+    back m = omega arith
 
 pub symmetric_fours : (n : ℕ) (a : Vec) (i : ℕ) → i + 3 < n → Symmetric n a → (j : ℕ) → j < i + 3 → Fours n a i j
-symmetric_fours n a i h m j l =
-    record { first = m i j (omega arith) (omega arith); second = m (i + 1) j (omega arith) (omega arith); third = m (i + 2) j (omega arith) (omega arith); fourth = m (i + 3) j (omega arith) (omega arith) }
+symmetric_fours n a i h m j l k q = m (i + k) j (omega arith) (omega arith)
 
 -- ---- the product
 

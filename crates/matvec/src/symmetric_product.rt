@@ -10,17 +10,14 @@ use grid::entry;
 
 // ---- whether a matrix is symmetric
 
-// Whether x and y are the same number: 0 and -0 are two, all NaNs are one.
+// Whether x and y are the same number: 0 and -0 are two, all NaNs are one. No operator or method says that.
 fn same(x: f64, y: f64) -> bool
     ensures { (result ≡ true) ↔ (x ≡ y) }
 {
-    if x != x {
-        return y != y;
+    if x.is_nan() || y.is_nan() {
+        return x.is_nan() && y.is_nan();
     }
-    if y != y {
-        return false;
-    }
-    f64::to_bits(x) == f64::to_bits(y)
+    x.to_bits() == y.to_bits()
 }
 
 // Whether number j of rows i to i + 3 is number i to i + 3 of row j: four at a time, since what stands below each other is far apart.
@@ -28,11 +25,11 @@ fn four_same(n: usize, i: usize, j: usize, a: &[f64]) -> bool
     requires { (n ≤ 256) × (i + 3 < n) × (j < n) × (length a.now ≡ n * n) }
     ensures { (result ≡ true) ↔ Fours n a.now i j }
 {
-    let p = same(entry(a, n, n, i, j), entry(a, n, n, j, i));
-    let q = same(entry(a, n, n, i + 1, j), entry(a, n, n, j, i + 1));
-    let r = same(entry(a, n, n, i + 2, j), entry(a, n, n, j, i + 2));
-    let s = same(entry(a, n, n, i + 3, j), entry(a, n, n, j, i + 3));
-    p & q & r & s
+    let mut all = true;
+    for k in 0..4 {
+        all &= same(entry(a, n, n, i + k, j), entry(a, n, n, j, i + k));
+    }
+    all
 }
 
 // Whether rows i to i + 3 left of the diagonal are the columns above it.
@@ -56,12 +53,10 @@ pub fn is_symmetric(n: usize, a: &[f64]) -> bool
     if n < 4 {
         return false;
     }
-    let mut i = 0;
-    while i + 4 < n {
+    for i in (0..n - 4).step_by(4) {
         if !rows_same(n, i, a) {
             return false;
         }
-        i = i + 4;
     }
     rows_same(n, n - 4, a)
 }

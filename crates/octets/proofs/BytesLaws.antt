@@ -1,6 +1,6 @@
 -- What is written as bytes is read back, and bytes that are read are what is written. Laws only.
 use Rattle.std.specs.Prelude.{◌≡◌, refl, List, [], ◌∷◌, ◌++◌, ℕ, zero, suc, ◌+◌, ◌*◌, ◌/◌, ◌%◌, ◌^◌, ◌≤◌, ◌<◌, length, get_or, take, drop}
-use Rattle.std.proofs.Common.{sym, ap, ◌∙◌, append_assoc, not-suc-le-zero, pow-suc, add-zero, add-one, arith, length-append, length-drop, take_at, drop_at, take-suc, get_or-drop, length-take-le, take-add, drop-drop}
+use Rattle.std.proofs.Common.{sym, ap, ◌∙◌, append_assoc, not-suc-le-zero, pow-suc, add-one, arith, length-append, length-drop, take_at, drop_at, take-suc, get_or-drop, length-take-le, take-add, drop-drop}
 use Rattle.octets.specs.Bytes.{be, three, words_bytes, byte, num, words_at, Bytes}
 
 -- ---- lists
@@ -36,19 +36,6 @@ pub be_length : (k n : ℕ) → length (be k n) ≡ k
 unfolding be
 be_length zero n = refl
 be_length (suc k) n = length-append (be k (n / 256)) (n % 256 ∷ []) ∙ rw (be_length k (n / 256), add-one)
-
-pub num4 : (t : List ℕ) (at : ℕ) → num 4 t at ≡ ((byte t at * 256 + byte t (at + 1)) * 256 + byte t (at + 2)) * 256 + byte t (at + 3)
-unfolding num
-num4 t at = rw (add-zero at) (omega arith)
-
-pub num8 : (t : List ℕ) (at a b : ℕ) → a ≡ num 4 t at → b ≡ num 4 t (at + 4) → a * 4294967296 + b ≡ num 8 t at
-unfolding num
-num8 t at a b p q =
-    let c : at + 4 + 1 ≡ at + 5 = omega arith in
-    let d : at + 4 + 2 ≡ at + 6 = omega arith in
-    let e : at + 4 + 3 ≡ at + 7 = omega arith in
-    let low : b ≡ ((byte t (at + 4) * 256 + byte t (at + 5)) * 256 + byte t (at + 6)) * 256 + byte t (at + 7) = rw (← c, ← d, ← e) (q ∙ num4 t (at + 4)) in
-    rw (add-zero at) (omega (arith, p ∙ num4 t at, low))
 
 pub num_bound : (t : List ℕ) (at k : ℕ) → Bytes t → num k t at < 256 ^ k
 unfolding num

@@ -1,9 +1,13 @@
 -- Bytes put to a buffer piece by piece are the whole put once. Laws only.
-use Rattle.std.specs.Prelude.{◌≡◌, refl, List, [], ◌∷◌, ◌++◌, map, ℕ, zero, suc, ◌+◌, ◌*◌, ◌/◌, ◌%◌, ◌≤◌, ◌<◌, length, set, take, drop, get_or, Float}
-use Rattle.std.proofs.Common.{sym, ap, ◌∙◌, append-nil, not-suc-le-zero, add-zero, zero-add, suc-add, add-suc, add-one, arith, length-append, take-suc, take_all, length-take-le}
+use Rattle.std.proofs.Common.{pow-suc, mul_comm, append_assoc}
+use Rattle.std.proofs.Math.Nat.{div-div-eq-div-mul}
+use Rattle.std.specs.Prelude.{◌≡◌, ◌-◌, ◌^◌, refl, List, [], ◌∷◌, ◌++◌, map, ℕ, zero, suc, ◌+◌, ◌*◌, ◌/◌, ◌%◌, ◌≤◌, ◌<◌, length, set, take, drop, get_or, Float}
+use Rattle.std.proofs.Common.{sym, ap, ◌∙◌, append-nil, not-suc-le-zero, add-zero, zero-add, suc-add, add-suc, add-one, arith, length-append, take-suc, length-take-le}
 use Rattle.std.proofs.lemmas.List.{map-append, length-map}
 use Rattle.std.proofs.lemmas.List.Edits.{sets, sets-eq}
 use Rattle.std.proofs.Math.Seq.{drop-length}
+use borrow.Rule.Slice.PartMut.{put_mid, post_of, Post-is}
+use Rattle.std.specs.Int.{byte_at, bytes_high_first}
 use Rattle.octets.specs.Bytes.{be, three, words_bytes, num, words_at}
 use Rattle.octets.specs.Bits.{float}
 use Rattle.octets.proofs.BytesLaws.{be_length, words_bytes_length, words_bytes_append, words_at_length}
@@ -24,29 +28,33 @@ module _ {A : Type 0} where
   put_whole l vs e =
       sets-eq vs l 0 (omega arith) ∙ ap (λ (n : ℕ). vs ++ drop n l) (zero-add (length vs) ∙ sym e) ∙ ap (λ (m : List A). vs ++ m) (drop-length l) ∙ append-nil vs
 
-pub four_put : (l : List ℕ) (at x : ℕ)
-    → set (set (set (set l at (x / 256 / 256 / 256 % 256)) (at + 1) (x / 256 / 256 % 256)) (at + 2) (x / 256 % 256)) (at + 3) (x % 256) ≡ sets l at (be 4 x)
-unfolding be
-four_put l at x =
-    let a : at + 1 ≡ suc at = omega arith in
-    let b : at + 2 ≡ suc (suc at) = omega arith in
-    let c : at + 3 ≡ suc (suc (suc at)) = omega arith in
-    rw (a, b, c)
+-- ---- one number
 
-pub eight_put : (l : List ℕ) (at x : ℕ)
-    → set (set (set (set (set (set (set (set l at (x / 256 / 256 / 256 / 256 / 256 / 256 / 256 % 256)) (at + 1) (x / 256 / 256 / 256 / 256 / 256 / 256 % 256))
-    (at + 2) (x / 256 / 256 / 256 / 256 / 256 % 256)) (at + 3) (x / 256 / 256 / 256 / 256 % 256)) (at + 4) (x / 256 / 256 / 256 % 256))
-    (at + 5) (x / 256 / 256 % 256)) (at + 6) (x / 256 % 256)) (at + 7) (x % 256) ≡ sets l at (be 8 x)
+-- the byte above
+above : (k n : ℕ) → byte_at (suc k) n ≡ byte_at k (n / 256)
+above zero n = refl
+above (suc k) n = ap (λ (m : ℕ). n / m % 256) (pow-suc 256 (suc k) ∙ mul_comm (256 ^ suc k) 256) ∙ ap (λ (m : ℕ). m % 256) (sym (div-div-eq-div-mul n 256 (256 ^ suc k)))
+
+-- with the lowest byte apart
+lowest : (k n : ℕ) → bytes_high_first (suc k) n ≡ bytes_high_first k (n / 256) ++ (n % 256 ∷ [])
+lowest zero n = refl
+lowest (suc k) n = rw (above k n, lowest k n) refl
+
+pub be_is : (k n : ℕ) → be k n ≡ bytes_high_first k n
 unfolding be
-eight_put l at x =
-    let a : at + 1 ≡ suc at = omega arith in
-    let b : at + 2 ≡ suc (suc at) = omega arith in
-    let c : at + 3 ≡ suc (suc (suc at)) = omega arith in
-    let d : at + 4 ≡ suc (suc (suc (suc at))) = omega arith in
-    let e : at + 5 ≡ suc (suc (suc (suc (suc at)))) = omega arith in
-    let f : at + 6 ≡ suc (suc (suc (suc (suc (suc at))))) = omega arith in
-    let g : at + 7 ≡ suc (suc (suc (suc (suc (suc (suc at)))))) = omega arith in
-    rw (a, b, c, d, e, f, g)
+be_is zero n = refl
+be_is (suc k) n = ap (λ (l : List ℕ). l ++ (n % 256 ∷ [])) (be_is k (n / 256)) ∙ sym (lowest k n)
+
+-- k bytes copied over those from `at` on
+pub copied : (l bytes : List ℕ) (at k n : ℕ) → at + k ≤ length l → bytes ≡ bytes_high_first k n → put_mid at (at + k - at) l bytes ≡ sets l at (be k n)
+copied l bytes at k n h e =
+    let ys = be k n in
+    let z : length ys ≡ k = be_length k n in
+    let after : post_of at (at + k - at) l ≡ drop (at + length ys) l = Post-is at (at + k) l (omega arith) ∙ ap (λ (m : ℕ). drop (at + m) l) (sym z) in
+    ap (λ (m : List ℕ). take at l ++ (m ++ post_of at (at + k - at) l)) (e ∙ sym (be_is k n))
+    ∙ ap (λ (m : List ℕ). take at l ++ (ys ++ m)) after
+    ∙ sym (append_assoc (take at l) ys (drop (at + length ys) l))
+    ∙ sym (sets-eq ys l at (omega arith))
 
 pub three_put : (l m n o : List ℕ) (at a b c : ℕ) → m ≡ sets l at (be 4 a) → n ≡ sets m (at + 4) (be 4 b) → o ≡ sets n (at + 8) (be 4 c) → o ≡ sets l at (three a b c)
 unfolding three
@@ -72,9 +80,6 @@ words_more l m n at i w ws h v e f =
     rw (add-one) (ap words_bytes (take-suc ws i 0 h) ∙ words_bytes_append (take i ws) (get_or ws i 0 ∷ []) ∙ rw (word_alone (get_or ws i 0), v)) in
     let size : at + length (words_bytes (take i ws)) ≡ at + 8 * i = rw (words_bytes_length (take i ws), length-take-le i ws (omega arith)) in
     rw whole (put_both l m n at (at + 8 * i) (words_bytes (take i ws)) (be 8 w) size e f)
-
-pub words_whole : (l m : List ℕ) (at i : ℕ) (ws : List ℕ) → length ws ≤ i → m ≡ sets l at (words_bytes (take i ws)) → m ≡ sets l at (words_bytes ws)
-words_whole l m at i ws h e = e ∙ ap (λ (v : List ℕ). sets l at (words_bytes v)) (take_all i ws h)
 
 -- ---- doubles
 

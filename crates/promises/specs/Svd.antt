@@ -1,5 +1,5 @@
 -- What is proved of `svd` and `vt_row`: x and y are what calls that meet the promise came back with. Laws only.
-use Rattle.std.specs.Prelude.{true, ◌↔◌, ◌⊎◌, ◌≡◌, ◌*◌, ◌+◌, ◌<◌, ◌≤◌, ℕ, Float, drop, length, take}
+use Rattle.std.specs.Prelude.{true, ◌↔◌, ◌⊎◌, ◌≡◌, ◌*◌, ◌+◌, ◌<◌, ◌≤◌, ℕ, Float, Option, drop, length, take}
 use Rattle.std.specs.Float.Ieee.{le}
 use Rattle.answers.specs.Answers.{answered, decomposition_length, done, least}
 use Rattle.answers.specs.Early.{Early}
@@ -17,7 +17,6 @@ use Rattle.svd_theorems.specs.Order.{order_sorted}
 use Rattle.svd_theorems.specs.SweepsOutcome.{bad, used}
 use Rattle.svd.specs.VtRowPlaced.{extent_at, extent_part}
 use Rattle.svd.specs.VtRow.{extent_of, part_at, part_of, row_span}
-use Rattle.svd.specs.declared.vt_row.Span.{Span}
 use Rattle.svd_sort_svd_descending.specs.Result.{longest, order_of, sorted_out, u_factor, v_factor, value_of, work_length}
 use Rattle.svd.specs.Svd.{svd}
 use Rattle.svd_jacobi_svd_tall.specs.SingularValues.{normalised}
@@ -132,11 +131,11 @@ pub t13_vt_row_cells : (m n u vt limit : ℕ) (matrix work result : Vec) (x : Ou
 t13_vt_row_cells = vt_row_cells_calls
 
 -- C's two numbers of a row, start and length, name the part that `vt_row` returns.
-pub t13_extent_part : (xs : Vec) (s : Span) → take (extent_of s).length (drop (extent_of s).start xs) ≡ part_of xs s
+pub t13_extent_part : (xs : Vec) (s : Option (ℕ × ℕ)) → take (extent_of s).length (drop (extent_of s).start xs) ≡ part_of xs s
 t13_extent_part = extent_part
 
 -- And the place in memory where it starts, at 8 bytes a number.
-pub t13_extent_at : (p : ℕ × ℕ) (s : Span) → (p.0, (extent_of s).start * 8 + p.1) ≡ part_at p s
+pub t13_extent_at : (p : ℕ × ℕ) (s : Option (ℕ × ℕ)) → (p.0, (extent_of s).start * 8 + p.1) ≡ part_at p s
 t13_extent_at = extent_at
 
 -- Two calls that differ only in what work and result held before have the same outcome, unless it is a refusal that touches nothing: 1 to 6.

@@ -5,8 +5,7 @@ use Rattle.tally_definition.proofs.Counted.{answered, counted, counted_taken, re
 use Rattle.tally_definition.specs.Figures.{Tile, accepted, good}
 use Rattle.tally_definition.specs.OneOutcome.{tally_one}
 use Rattle.tally_definition.specs.Series.{figures, series, taken_of}
-use Rattle.tally_definition.specs.Tallies.{none, outcome, refusal}
-use Rattle.tally_definition.specs.declared.Reply.{Reply}
+use Rattle.tally_definition.specs.Tallies.{Reply, none, outcome, refusal}
 use Rattle.tally_definition.specs.declared.Tally.{Tally}
 
 -- Two outcomes of the call that adds a tile are one where they satisfy its promise.

@@ -1,5 +1,6 @@
 -- Where the answer is 0, every number of the answer array is finite, and it is as long as the matrix: a finite norm makes each entry's square finite. Laws only.
-use Rattle.std.specs.Prelude.{◌≡◌, refl, Bool, true, false, cond, ℕ, zero, suc, ◌+◌, ◌*◌, ◌<◌, Float, length, set}
+use Rattle.leaves.specs.declared.Bad.{Bad}
+use Rattle.std.specs.Prelude.{◌≡◌, refl, Bool, true, false, cond, ℕ, zero, suc, ◌+◌, ◌*◌, ◌<◌, Float, length, set, Option, Some, None}
 use Rattle.std.proofs.Common.{sym, ap, ◌∙◌, subst, ⊎_elim, add-one, arith, eqb-true, length-set, get_or-set_same, get_or-set_other}
 use Rattle.std.proofs.Math.Decide.{ℕ_discrete}
 use Rattle.std.specs.Float.{nan}
@@ -16,8 +17,6 @@ use Rattle.leaves.specs.Leaf.{is_finite}
 use Rattle.leaves.specs.Scan.{class_of, first_bad}
 use Rattle.leaves.specs.ScanLaws.{first_bad_none, class_cases}
 use Rattle.leaves.specs.Finite.{Finite}
-use Rattle.leaves.specs.declared.Bad.{Bad}
-use Rattle.leaves.specs.declared.Bad.TheVariants.{At, Nowhere}
 use Rattle.answers.specs.Answers.{answered, done, passed, emptied, unless_bad}
 use Rattle.answers.proofs.OutcomeLaws.{Good, refuses, check_good}
 use Rattle.answers.specs.declared.Answer.{Answer}
@@ -150,9 +149,9 @@ qr_good : (m k : ℕ) (a x : Vec) → Good (length a) (qr_q m k a x)
 unfolding qr_q
 qr_good m k a x = check_good (length a) (checks m k (length a) (length x)) x _ (scanned (first_bad a) refl)
   where
-    scanned : (b : Bad) → first_bad a ≡ b → Good (length a) (unless_bad b x (columns m k a k))
-    scanned (At i c) e = refuses (length a) _ _ (λ z. omega arith)
-    scanned Nowhere e = columns_good m k a (first_bad_none a e)
+    scanned : (b : Option Bad) → first_bad a ≡ b → Good (length a) (unless_bad b x (columns m k a k))
+    scanned (Some bad) e = refuses (length a) _ _ (λ z. omega arith)
+    scanned None e = columns_good m k a (first_bad_none a e)
 
 -- **finite_out**
 pub qr_q_finite_out : (m k : ℕ) (a x : Vec) → (qr_q m k a x).0.answer ≡ 0 → Finite (qr_q m k a x).1

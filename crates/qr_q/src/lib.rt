@@ -3,14 +3,16 @@
 
 ghost use Rattle.std.specs.Prelude.{◌≡◌, ◌*◌, ◌<◌, ◌≤◌, length};
 ghost use Rattle.answers.specs.Answers.{unless_bad};
+ghost use Rattle.answers.specs.Refusals.{verdict};
 ghost use Rattle.leaves.specs.Scan.{first_bad};
 ghost use Rattle.qr_q.specs.QrQ.{column, columns, checks, qr_q};
 
 use answers::checks::lengths;
-use answers::{Answer, done, refusal7, refuse, refused};
+use answers::refusal::Refusal;
+use answers::{Answer, done, refuse};
 use gram_schmidt::normalise::finish;
 use gram_schmidt::{column_of, less_columns_twice, norm};
-use grid::{LARGEST, copy};
+use grid::LARGEST;
 use leaves::scan::first_bad;
 
 fn column(m: usize, k: usize, j: usize, b: &mut [f64], c: &mut [f64], q: &mut [f64]) -> Answer
@@ -19,7 +21,7 @@ fn column(m: usize, k: usize, j: usize, b: &mut [f64], c: &mut [f64], q: &mut [f
 {
     column_of(m, k, q, j, c);
     less_columns_twice(m, k, j, q, b, c);
-    finish(m, k, j, norm(m, c), c, q)
+    finish(m, k, j, norm(c), c, q)
 }
 
 fn columns(m: usize, k: usize, b: &mut [f64], c: &mut [f64], q: &mut [f64]) -> Answer
@@ -36,16 +38,13 @@ fn columns(m: usize, k: usize, b: &mut [f64], c: &mut [f64], q: &mut [f64]) -> A
     r
 }
 
-fn checks(m: usize, k: usize, a: usize, x: usize) -> Answer
-    ensures { result ≡ checks m k a x }
+fn checks(m: usize, k: usize, a: usize, x: usize) -> Result<(), Refusal>
+    ensures { verdict result ≡ checks m k a x }
 {
-    if m > LARGEST {
-        return refused(1, 0);
+    if m > LARGEST || k > LARGEST {
+        return Err(Refusal::Dimension);
     }
-    if k > LARGEST {
-        return refused(1, 0);
-    }
-    lengths(a, m * k, x, m * k, 0, 0)
+    lengths(&[(a, m * k), (x, m * k)])
 }
 
 // The columns of a, worked on in x with two columns of scratch.
@@ -55,7 +54,7 @@ fn run(m: usize, k: usize, a: &[f64], x: &mut [f64]) -> Answer
 {
     let mut b = [0.0f64; LARGEST];
     let mut c = [0.0f64; LARGEST];
-    copy(a, x);
+    x.copy_from_slice(a);
     columns(m, k, &mut b[..m], &mut c[..m], x)
 }
 
@@ -63,19 +62,17 @@ fn scanned(m: usize, k: usize, a: &[f64], x: &mut [f64]) -> Answer
     requires { (m ≤ 256) × (length a.now ≡ m * k) × (length x.old ≡ m * k) }
     ensures { (result, x.new) ≡ unless_bad (first_bad a.now) x.old (columns m k a.now k) }
 {
-    let bad = refusal7(first_bad(a));
-    if bad.answer != 0 {
-        return refuse(bad, x);
+    match first_bad(a) {
+        None => run(m, k, a, x),
+        Some(bad) => refuse(Refusal::NotFinite(bad.index).into(), x),
     }
-    run(m, k, a, x)
 }
 
 pub fn qr_q(m: usize, k: usize, matrix: &[f64], answer: &mut [f64]) -> Answer
     ensures { (result, answer.new) ≡ qr_q m k matrix.now answer.old }
 {
-    let check = checks(m, k, matrix.len(), answer.len());
-    if check.answer != 0 {
-        return check;
+    match checks(m, k, matrix.len(), answer.len()) {
+        Ok(()) => scanned(m, k, matrix, answer),
+        Err(r) => r.into(),
     }
-    scanned(m, k, matrix, answer)
 }

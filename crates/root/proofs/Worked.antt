@@ -1,5 +1,5 @@
 -- The root's working for a bit pattern: the whole numbers that the code goes through, and what double they make.
-use Rattle.std.proofs.Common.{◌≡◌, ℕ, zero, suc, ◌+◌, ◌-◌, ◌*◌, ◌/◌, ◌%◌, ◌^◌, ◌<◌, ◌≤◌, Bool, true, false, cond, ◌&&◌, T, eqb, ltb, leb, ℤ, pos, negsuc, sym, refl, ap, ◌∙◌, subst, inl, inr, true≢false, lt_of_lt_of_le, le_of_suc-le-suc, lt_irrefl, mul_assoc, lt_of_not-le, zero-mul, mul-one, div-one, mul-div_cancel, arith, ltb→lt, leb→le, pow_pos, pow-add, le-ltb, lt-ltb, leb-false}
+use Rattle.std.proofs.Common.{◌≡◌, ℕ, zero, suc, ◌+◌, ◌-◌, ◌*◌, ◌/◌, ◌%◌, ◌^◌, ◌<◌, ◌≤◌, Bool, true, false, cond, ◌&&◌, T, eqb, ltb, leb, ℤ, pos, negsuc, sym, refl, ap, ◌∙◌, subst, inl, inr, true≢false, lt_of_lt_of_le, le_of_suc-le-suc, lt_irrefl, mul_assoc, lt_of_not-le, zero-mul, mul-one, div-one, mul-div_cancel, arith, ltb→lt, leb→le, pow_pos, pow-add, le-ltb, leb-false}
 use native.Mathlib.Nat.{zero-div}
 use lib.Pow.{pow-lt}
 use lib.Ieee.{Float, nan, inf, fin, binary64, up, down, size, of_fields, of_bits, to_bits, fits}
@@ -12,7 +12,7 @@ use Rattle.root.specs.Parts.{sig, exp, even, root_bits}
 use Rattle.root.specs.Nearest.{counted}
 use Rattle.root.proofs.Whole.{Is}
 use Rattle.root.proofs.Fields.{val, split, paired, whole_of, whole_lt, root_bits_is}
-use Rattle.root.proofs.Patterns.{of_bits_is, bits_value, fields_value, fields_top, units_of, top_or_less, is_positive}
+use Rattle.root.proofs.Patterns.{of_bits_is, bits_value, fields_value, fields_top, units_of, top_or_less}
 use Rattle.root.proofs.Middle.{s_ge, q_ge, q_lt}
 
 -- ---- units
@@ -95,20 +95,6 @@ pattern x f p =
   where
     above_zero : (b : ℕ) → (b ≡ 0 → ⊥) → 0 < b
     above_zero b h = omega arith
-
--- a number is finite and above zero by its pattern
-pub positive_is : (x : Float) → T (fits binary64 x) → (ltb 0 (to_bits binary64 x) && ltb (to_bits binary64 x) 0x7ff0_0000_0000_0000) ≡ positive x
-positive_is x f = go (positive x) (pattern x f) (is_positive x f)
-  where
-    none : (b : ℕ) (s t : Bool) → (T s → 0 < b) → (T t → b < 0x7ff0_0000_0000_0000) → (0 < b → b < 0x7ff0_0000_0000_0000 → ⊥) → (s && t) ≡ false
-    none b true true h k q = absurd (q (h tt) (k tt))
-    none b true false h k q = refl
-    none b false t h k q = refl
-
-    go : (z : Bool) → (T z → (0 < to_bits binary64 x) × (to_bits binary64 x < 0x7ff0_0000_0000_0000)) → (0 < to_bits binary64 x → to_bits binary64 x < 0x7ff0_0000_0000_0000 → T z)
-        → (ltb 0 (to_bits binary64 x) && ltb (to_bits binary64 x) 0x7ff0_0000_0000_0000) ≡ z
-    go true p q = rw (lt-ltb _ _ (p tt).0, lt-ltb _ _ (p tt).1)
-    go false p q = none (to_bits binary64 x) (ltb 0 (to_bits binary64 x)) (ltb (to_bits binary64 x) 0x7ff0_0000_0000_0000) (ltb→lt 0 (to_bits binary64 x)) (ltb→lt (to_bits binary64 x) 0x7ff0_0000_0000_0000) q
 
 -- ---- the root's units
 

@@ -7,6 +7,10 @@ use native.Mathlib.Omega.{arith}
 use borrow.Author.Tests.{ltb-false, le-ltb, eqb-false}
 use lib.Dec.{ltb, eqb}
 use lib.Ieee.{Float}
+use Rattle.std.specs.Prelude.{⊤, Result, Ok, Err}
+use Rattle.answers.specs.Refusals.{answer_to, verdict}
+use Rattle.answers.specs.declared.refusal.Refusal.{Refusal}
+use Rattle.answers.proofs.VerdictLaws.{on_ok, on_err, fails}
 use Rattle.answers.specs.Answers.{refused, done, present, decomposition_length}
 use Rattle.answers.specs.declared.Answer.{Answer}
 use Rattle.answers.specs.Checks.{fitting}
@@ -24,7 +28,7 @@ abbrev chain : Bool → Bool → Bool → Answer → Answer
 chain a b c later = cond a (refused 1 0) (cond b (refused 3 0) (cond c (refused 4 0) later))
 
 -- where the first three refuse, the later checks do not count
-pub stops : (m n u vt : ℕ) (later : Answer) {r : Answer} → r ≡ parts m n u vt (done 0) → (r.answer ≡ 0 → ⊥) → r ≡ parts m n u vt later
+stops : (m n u vt : ℕ) (later : Answer) {r : Answer} → r ≡ parts m n u vt (done 0) → (r.answer ≡ 0 → ⊥) → r ≡ parts m n u vt later
 stops m n u vt later e h = e ∙ go (ltb 256 m || ltb 256 n) (eqb u 0) (eqb vt 0) (λ z. h (ap (λ (a : Answer). a.answer) e ∙ z))
   where
     go : (a b c : Bool) → ((chain a b c (done 0)).answer ≡ 0 → ⊥) → chain a b c (done 0) ≡ chain a b c later
@@ -33,6 +37,10 @@ stops m n u vt later e h = e ∙ go (ltb 256 m || ltb 256 n) (eqb u 0) (eqb vt 0
     go false false true h = refl
     go false false false h = absurd (h refl)
 
+-- so the refusal is that of all checks
+pub stopped : (m n u vt : ℕ) (later : Answer) {x : Result ⊤ Refusal} {r : Refusal} → verdict x ≡ parts m n u vt (done 0) → x ≡ Err r → answer_to r ≡ parts m n u vt later
+stopped m n u vt later {r = r} e o = stops m n u vt later (sym (on_err e o)) (eqb-false _ 0 (fails r))
+
 -- where they refuse nothing
 pub record There (m n u vt : ℕ) : Type 0 where
   pub few : m ≤ 256
@@ -40,7 +48,7 @@ pub record There (m n u vt : ℕ) : Type 0 where
   pub has_u : eqb u 0 ≡ false
   pub has_vt : eqb vt 0 ≡ false
 
-pub there : (m n u vt : ℕ) (later : Answer) {r : Answer} → r ≡ parts m n u vt later → r.answer ≡ 0 → There m n u vt
+there : (m n u vt : ℕ) (later : Answer) {r : Answer} → r ≡ parts m n u vt later → r.answer ≡ 0 → There m n u vt
 there m n u vt later e h = go (ltb 256 m) refl (ltb 256 n) refl (eqb u 0) refl (eqb vt 0) refl (told e h)
   where
     go : (a : Bool) → ltb 256 m ≡ a → (b : Bool) → ltb 256 n ≡ b → (c : Bool) → eqb u 0 ≡ c → (d : Bool) → eqb vt 0 ≡ d
@@ -50,6 +58,9 @@ there m n u vt later e h = go (ltb 256 m) refl (ltb 256 n) refl (eqb u 0) refl (
     go false e false f true g d k h = absurd (omega arith)
     go false e false f false g true k h = absurd (omega arith)
     go false e false f false g false k h = record { few = ltb-false 256 m e; narrow = ltb-false 256 n f; has_u = g; has_vt = k }
+
+pub passed_there : (m n u vt : ℕ) {x : Result ⊤ Refusal} {y : ⊤} → verdict x ≡ parts m n u vt (done 0) → x ≡ Ok y → There m n u vt
+passed_there m n u vt e o = there m n u vt (done 0) (sym (on_ok e o)) refl
 
 -- and then the later checks decide
 pub goes : (m n u vt : ℕ) (later : Answer) → There m n u vt → later ≡ parts m n u vt later

@@ -1,11 +1,10 @@
 -- What the index of `solve` and `pseudo_inverse` says: it points at the number that mark 2 met (`..-index-points`), and is 0 on every other answer (`..-index-zero`). Laws only.
-use Rattle.std.specs.Prelude.{◌≡◌, refl, cond, ◌++◌, ℕ, Float, length}
+use Rattle.leaves.specs.declared.Bad.{Bad}
+use Rattle.std.specs.Prelude.{◌≡◌, refl, cond, ◌++◌, ℕ, Float, length, Option, Some, None, is_some}
 use Rattle.std.proofs.Common.{arith}
 use Rattle.grid.specs.Real.{Vec, at}
-use Rattle.leaves.specs.Scan.{first_bad, is_bad}
+use Rattle.leaves.specs.Scan.{first_bad}
 use Rattle.leaves.specs.ScanLaws.{scan_first, scan_class}
-use Rattle.leaves.specs.declared.Bad.{Bad}
-use Rattle.leaves.specs.declared.Bad.TheVariants.{At, Nowhere}
 use Rattle.answers.specs.Answers.{done, emptied, marked}
 use Rattle.answers.specs.Index.{AtMark, Indexed}
 use Rattle.answers.specs.IndexLaws.{below, pointed, unless_indexed, by_unmarked}
@@ -20,9 +19,9 @@ looked_indexed : (x : Vec) → Indexed (Points x) (looked x).0
 unfolding looked
 looked_indexed x = go (first_bad x) refl
   where
-    go : (b : Bad) → first_bad x ≡ b → Indexed (Points x) (cond (is_bad b) (emptied (marked 2 0 b) x) (done 0, x)).0
-    go (At i c) e = pointed (Points x) _ (scan_class (at x) (length x) i c e) (record { first = scan_first (at x) (length x) i c e; mark = refl })
-    go Nowhere e = below (Points x) _ (omega arith) refl
+    go : (b : Option Bad) → first_bad x ≡ b → Indexed (Points x) (cond (is_some b) (emptied (marked 2 0 b) x) (done 0, x)).0
+    go (Some bad) e = pointed (Points x) _ (scan_class (at x) (length x) bad.index bad.class e) (record { first = scan_first (at x) (length x) bad.index bad.class e; mark = refl })
+    go None e = below (Points x) _ (omega arith) refl
 
 -- ---- solve
 

@@ -1,13 +1,12 @@
 -- Where the answer is 0, every number of the answer array is finite, and there are n, or n·m, of them. Laws only.
-use Rattle.std.specs.Prelude.{◌≡◌, refl, cond, ◌++◌, ℕ, ◌*◌, Float, length}
+use Rattle.leaves.specs.declared.Bad.{Bad}
+use Rattle.std.specs.Prelude.{◌≡◌, refl, cond, ◌++◌, ℕ, ◌*◌, Float, length, Option, Some, None, is_some}
 use Rattle.std.proofs.Common.{⊎_elim, arith}
 use Rattle.grid.specs.Real.{Vec, at}
 use Rattle.grid.specs.TableLaws.{length_table, length_rows}
-use Rattle.leaves.specs.Scan.{first_bad, is_bad}
+use Rattle.leaves.specs.Scan.{first_bad}
 use Rattle.leaves.specs.Finite.{Finite}
 use Rattle.leaves.specs.ScanLaws.{first_bad_none, scan_class}
-use Rattle.leaves.specs.declared.Bad.{Bad}
-use Rattle.leaves.specs.declared.Bad.TheVariants.{At, Nowhere}
 use Rattle.answers.specs.Answers.{done, emptied, marked}
 use Rattle.answers.proofs.OutcomeLaws.{Good, refuses, unless_good, check_good}
 use Rattle.solve.specs.Solve.{looked, solve_checks, inverse_checks, solve, pseudo_inverse}
@@ -18,9 +17,9 @@ looked_good : (n : ℕ) (x : Vec) → length x ≡ n → Good n (looked x)
 unfolding looked
 looked_good n x l = go (first_bad x) refl
   where
-    go : (b : Bad) → first_bad x ≡ b → Good n (cond (is_bad b) (emptied (marked 2 0 b) x) (done 0, x))
-    go (At i c) e = refuses n _ _ (λ z. ⊎_elim (λ h. omega arith) (λ h. omega arith) (scan_class (at x) (length x) i c e))
-    go Nowhere e = record { finite = λ z. first_bad_none x e; long = λ z. l }
+    go : (b : Option Bad) → first_bad x ≡ b → Good n (cond (is_some b) (emptied (marked 2 0 b) x) (done 0, x))
+    go (Some bad) e = refuses n _ _ (λ z. ⊎_elim (λ h. omega arith) (λ h. omega arith) (scan_class (at x) (length x) bad.index bad.class e))
+    go None e = record { finite = λ z. first_bad_none x e; long = λ z. l }
 
 pub solve_good : (m n u vt : ℕ) (tol : Float) (d b x : Vec) → Good n (solve m n u vt tol d b x)
 unfolding solve solution

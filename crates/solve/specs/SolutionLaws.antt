@@ -4,9 +4,10 @@ use Rattle.std.proofs.Common.{ap}
 use Rattle.std.specs.Float.Ieee.{lt}
 use Rattle.grid.specs.Real.{Vec, at, zero64, ◌⊕◌, ◌⊗◌, ◌⊘◌}
 use Rattle.grid.specs.Cell.{entry}
+use Rattle.grid.specs.Table.{table}
 use Rattle.answers.specs.Answers.{least}
 use Rattle.answers.specs.AnswersLaws.{least_le, product_le}
-use Rattle.solve.specs.Solution.{coefficient}
+use Rattle.solve.specs.Solution.{column_sum, coefficient}
 
 -- the Rust sums only where a value is above the tolerance: elsewhere the sum has no part in c[k], which is the +0.0 that it starts as
 pub sum_left_out : (tol sv acc : Float) → lt tol sv ≡ false → coefficient tol sv acc ≡ zero64
@@ -19,6 +20,10 @@ add_step cols a i by j acc = set acc j (at acc j ⊕ entry a cols i j ⊗ by)
 
 abbrev pub coefficient_step : Float → Vec → ℕ → Vec → Vec
 coefficient_step tol s k c = set c k (coefficient tol (at s k) (at c k))
+
+-- x by the parts of a decomposition
+abbrev pub solution_of : ℕ → ℕ → ℕ → Float → Vec → Vec → Vec → Vec → Vec
+solution_of m r n tol s u vt b = table (column_sum r n vt (table (λ k. coefficient tol (at s k) (column_sum m r u b k)) r)) n
 
 -- what the checks leave: m and n are small, and the decomposition, of length l, is whole
 pub record Sized (m n l : ℕ) : Type 0 where

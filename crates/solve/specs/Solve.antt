@@ -1,10 +1,10 @@
 -- `solve` and `pseudo_inverse`: the checks in the scope's order, and the outcomes. Definitions only.
-use Rattle.std.specs.Prelude.{cond, not, ◌||◌, ◌++◌, ℕ, ◌*◌, ltb, eqb, Float, length}
+use Rattle.std.specs.Prelude.{cond, not, ◌||◌, ◌++◌, ℕ, ◌*◌, ltb, eqb, Float, length, is_some}
 use Rattle.grid.specs.Real.{Vec}
 use Rattle.answers.specs.Answers.{refused, done, passed, decomposition_length, emptied, marked, unless_bad}
 use Rattle.answers.specs.declared.Answer.{Answer}
 use Rattle.answers.specs.Checks.{fitting}
-use Rattle.leaves.specs.Scan.{is_bad, first_bad}
+use Rattle.leaves.specs.Scan.{first_bad}
 use Rattle.solve.specs.Solution.{solution}
 use Rattle.solve.specs.PseudoInverse.{inverted}
 
@@ -30,7 +30,7 @@ inverse_checks m n u vt tol d x = parts m n u vt (fitting tol d (decomposition_l
 
 -- mark 2 looks at the answer x
 unfoldable pub looked : Vec → Answer × Vec
-looked x = cond (is_bad (first_bad x)) (emptied (marked 2 0 (first_bad x)) x) (done 0, x)
+looked x = cond (is_some (first_bad x)) (emptied (marked 2 0 (first_bad x)) x) (done 0, x)
 
 -- refusal 7 looks at the decomposition d, then at the right side b
 unfoldable pub solve : ℕ → ℕ → ℕ → ℕ → Float → Vec → Vec → Vec → Answer × Vec

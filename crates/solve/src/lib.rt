@@ -2,41 +2,41 @@
 // `Svd::solve` and `Svd::pseudo_inverse`).
 #![tactic(auto)]
 
+mod decomposition; // A decomposition by its parts
 mod solution; // The least-squares solution by the parts of a decomposition, operation for operation (document 000's `Svd::solve`)
 mod pseudo_inverse_rows; // The pseudo-inverse by the parts of a decomposition, operation for operation (document 000's `Svd::pseudo_inverse`)
 
-ghost use Rattle.std.specs.Prelude.{◌≡◌, ◌++◌, ◌*◌, length};
-ghost use Rattle.answers.specs.Answers.{done, unless_bad};
-ghost use Rattle.leaves.specs.Scan.{first_bad};
+ghost use Rattle.std.specs.Prelude.{◌≡◌, ◌*◌, length};
+ghost use Rattle.answers.specs.Answers.{done};
+ghost use Rattle.answers.specs.Refusals.{verdict};
 ghost use Rattle.solve.specs.Solution.{solution};
 ghost use Rattle.solve.specs.PseudoInverse.{inverted};
 ghost use Rattle.solve.specs.Solve.{parts, solve_checks, inverse_checks, looked, solve, pseudo_inverse};
 ghost use Rattle.solve.specs.SolutionLaws.{Sized};
 
+use crate::decomposition::parts_of;
 use crate::pseudo_inverse_rows::inverted;
+use crate::solution::solution;
 use answers::checks::fitting;
-use answers::{Answer, decomposition_length, done, least, marked, refusal7, refuse, refused};
+use answers::refusal::Refusal;
+use answers::{Answer, decomposition_length, done, marked, refuse};
 use grid::LARGEST;
-use leaves::is_bad;
 use leaves::scan::{first_bad, first_bad_of_both};
 
-// Refusals 1, 3 and 4.
-fn parts(m: usize, n: usize, has_u: usize, has_vt: usize) -> Answer
-    ensures { result ≡ parts m n has_u has_vt (done 0) }
+// Refusals 1, 3 and 4. The flags are numbers, as C gives them: 0 is no.
+fn parts(m: usize, n: usize, has_u: usize, has_vt: usize) -> Result<(), Refusal>
+    ensures { verdict result ≡ parts m n has_u has_vt (done 0) }
 {
-    if m > LARGEST {
-        return refused(1, 0);
-    }
-    if n > LARGEST {
-        return refused(1, 0);
+    if m > LARGEST || n > LARGEST {
+        return Err(Refusal::Dimension);
     }
     if has_u == 0 {
-        return refused(3, 0);
+        return Err(Refusal::NoU);
     }
     if has_vt == 0 {
-        return refused(4, 0);
+        return Err(Refusal::NoVt);
     }
-    done(0)
+    Ok(())
 }
 
 fn solve_checks(
@@ -48,15 +48,12 @@ fn solve_checks(
     d: usize,
     b: usize,
     x: usize,
-) -> Answer
-    ensures { result ≡ solve_checks m n has_u has_vt tolerance d b x }
+) -> Result<(), Refusal>
+    ensures { verdict result ≡ solve_checks m n has_u has_vt tolerance d b x }
 {
-    let first = parts(m, n, has_u, has_vt);
-    if first.answer != 0 {
-        return first;
-    }
+    parts(m, n, has_u, has_vt)?;
     if b != m {
-        return refused(5, 0);
+        return Err(Refusal::RightSide);
     }
     let want = decomposition_length(m, n, has_u, has_vt);
     fitting(tolerance, d, want, x, n)
@@ -70,13 +67,10 @@ fn inverse_checks(
     tolerance: f64,
     d: usize,
     x: usize,
-) -> Answer
-    ensures { result ≡ inverse_checks m n has_u has_vt tolerance d x }
+) -> Result<(), Refusal>
+    ensures { verdict result ≡ inverse_checks m n has_u has_vt tolerance d x }
 {
-    let first = parts(m, n, has_u, has_vt);
-    if first.answer != 0 {
-        return first;
-    }
+    parts(m, n, has_u, has_vt)?;
     let want = decomposition_length(m, n, has_u, has_vt);
     fitting(tolerance, d, want, x, n * m)
 }
@@ -86,32 +80,21 @@ fn look(x: &mut [f64]) -> Answer
     ensures { (result, x.new) ≡ looked x.old }
 {
     let bad = first_bad(x);
-    if is_bad(bad) {
+    if bad.is_some() {
         return refuse(marked(2, 0, bad), x);
     }
     done(0)
 }
 
+// Beside `inverse_looked`: one function with a closure for the line in which they differ would be no plainer.
 fn solve_looked(m: usize, n: usize, tolerance: f64, d: &[f64], b: &[f64], x: &mut [f64]) -> Answer
     requires { Sized m n (length d.now) × (length b.now ≡ m) × (length x.old ≡ n) }
     ensures { (result, x.new) ≡ looked (solution m n tolerance d.now b.now) }
 {
-    let r = least(m, n);
+    let p = parts_of(m, n, d);
     let mut c = [0.0f64; LARGEST];
-    crate::solution::solution(m, n, r, tolerance, d, b, &mut c[..r], x);
+    solution(p, tolerance, b, &mut c[..p.r], x);
     look(x)
-}
-
-// The decomposition is scanned, then the right side, its indices behind those of the decomposition.
-fn solve_scanned(m: usize, n: usize, tolerance: f64, d: &[f64], b: &[f64], x: &mut [f64]) -> Answer
-    requires { Sized m n (length d.now) × (length b.now ≡ m) × (length x.old ≡ n) }
-    ensures { (result, x.new) ≡ unless_bad (first_bad (d.now ++ b.now)) x.old (looked (solution m n tolerance d.now b.now)) }
-{
-    let bad = refusal7(first_bad_of_both(d, b));
-    if bad.answer != 0 {
-        return refuse(bad, x);
-    }
-    solve_looked(m, n, tolerance, d, b, x)
 }
 
 // The minimum-norm least-squares solution of A x = b.
@@ -127,7 +110,7 @@ pub fn solve(
 ) -> Answer
     ensures { (result, answer.new) ≡ solve m n has_u has_vt tolerance decomposition.now right_side.now answer.old }
 {
-    let check = solve_checks(
+    if let Err(r) = solve_checks(
         m,
         n,
         has_u,
@@ -136,32 +119,24 @@ pub fn solve(
         decomposition.len(),
         right_side.len(),
         answer.len(),
-    );
-    if check.answer != 0 {
-        return check;
+    ) {
+        return r.into();
     }
-    solve_scanned(m, n, tolerance, decomposition, right_side, answer)
+    // The right side's indices count on behind those of the decomposition.
+    if let Some(bad) = first_bad_of_both(decomposition, right_side) {
+        return refuse(Refusal::NotFinite(bad.index).into(), answer);
+    }
+    solve_looked(m, n, tolerance, decomposition, right_side, answer)
 }
 
 fn inverse_looked(m: usize, n: usize, tolerance: f64, d: &[f64], x: &mut [f64]) -> Answer
     requires { Sized m n (length d.now) × (length x.old ≡ n * m) }
     ensures { (result, x.new) ≡ looked (inverted m n tolerance d.now) }
 {
-    let r = least(m, n);
+    let p = parts_of(m, n, d);
     let mut w = [0.0f64; LARGEST];
-    inverted(m, n, r, tolerance, d, &mut w[..r], x);
+    inverted(p, tolerance, &mut w[..p.r], x);
     look(x)
-}
-
-fn inverse_scanned(m: usize, n: usize, tolerance: f64, d: &[f64], x: &mut [f64]) -> Answer
-    requires { Sized m n (length d.now) × (length x.old ≡ n * m) }
-    ensures { (result, x.new) ≡ unless_bad (first_bad d.now) x.old (looked (inverted m n tolerance d.now)) }
-{
-    let bad = refusal7(first_bad(d));
-    if bad.answer != 0 {
-        return refuse(bad, x);
-    }
-    inverse_looked(m, n, tolerance, d, x)
 }
 
 // The Moore-Penrose pseudo-inverse, n by m.
@@ -176,7 +151,7 @@ pub fn pseudo_inverse(
 ) -> Answer
     ensures { (result, answer.new) ≡ pseudo_inverse m n has_u has_vt tolerance decomposition.now answer.old }
 {
-    let check = inverse_checks(
+    if let Err(r) = inverse_checks(
         m,
         n,
         has_u,
@@ -184,9 +159,11 @@ pub fn pseudo_inverse(
         tolerance,
         decomposition.len(),
         answer.len(),
-    );
-    if check.answer != 0 {
-        return check;
+    ) {
+        return r.into();
     }
-    inverse_scanned(m, n, tolerance, decomposition, answer)
+    if let Some(bad) = first_bad(decomposition) {
+        return refuse(Refusal::NotFinite(bad.index).into(), answer);
+    }
+    inverse_looked(m, n, tolerance, decomposition, answer)
 }

@@ -2,12 +2,12 @@
 ghost use Rattle.std.specs.Prelude.{◌≡◌, ◌*◌, ◌<◌, length};
 ghost use Rattle.grid.specs.Real.{at, ◌⊕◌, ◌⊗◌};
 ghost use Rattle.grid.specs.Cell.{entry};
-ghost use Rattle.grid.specs.Table.{table, rows};
-ghost use Rattle.answers.specs.Answers.{least};
-ghost use Rattle.solve.specs.Solution.{column_sum, coefficient, solution};
-ghost use Rattle.solve.specs.SolutionLaws.{Sized};
+ghost use Rattle.grid.specs.Table.{table};
+ghost use Rattle.solve.specs.Solution.{column_sum, coefficient};
+ghost use Rattle.solve.specs.SolutionLaws.{solution_of};
 
-use grid::{at1, entry, fill, put1};
+use crate::decomposition::Parts;
+use grid::{entry, fill};
 
 // Row i of a, by a number, is added to acc.
 fn add_row(rows: usize, cols: usize, a: &[f64], i: usize, by: f64, acc: &mut [f64])
@@ -15,7 +15,7 @@ fn add_row(rows: usize, cols: usize, a: &[f64], i: usize, by: f64, acc: &mut [f6
     ensures { acc.new ≡ table (λ j. at acc.old j ⊕ entry a.now cols i j ⊗ by) cols }
 {
     for j in 0..cols {
-        put1(acc, j, at1(acc, j) + entry(a, rows, cols, i, j) * by);
+        acc[j] += entry(a, rows, cols, i, j) * by;
     }
 }
 
@@ -26,12 +26,12 @@ fn column_sums(rows: usize, cols: usize, a: &[f64], v: &[f64], y: &mut [f64])
 {
     fill(y);
     for i in 0..rows {
-        add_row(rows, cols, a, i, at1(v, i), y);
+        add_row(rows, cols, a, i, v[i], y);
     }
 }
 
-// c[k] for the value sv. One that is not above the tolerance counts as zero.
-fn coefficient(tolerance: f64, sv: f64, acc: f64) -> f64
+// acc over the value sv. One that is not above the tolerance counts as zero.
+pub fn coefficient(tolerance: f64, sv: f64, acc: f64) -> f64
     ensures { result ≡ coefficient tolerance sv acc }
 {
     if sv > tolerance { acc / sv } else { 0.0 }
@@ -42,26 +42,16 @@ fn coefficients(r: usize, tolerance: f64, s: &[f64], c: &mut [f64])
     ensures { c.new ≡ table (λ k. coefficient tolerance (at s.now k) (at c.old k)) r }
 {
     for k in 0..r {
-        put1(c, k, coefficient(tolerance, at1(s, k), at1(c, k)));
+        c[k] = coefficient(tolerance, s[k], c[k]);
     }
 }
 
 // x = V * c with c = sigma^+ * U^T * b. The scratch c has room for r numbers.
-pub fn solution(
-    m: usize,
-    n: usize,
-    r: usize,
-    tolerance: f64,
-    d: &[f64],
-    b: &[f64],
-    c: &mut [f64],
-    x: &mut [f64],
-)
-    requires { (r ≡ least m n) × Sized m n (length d.now) × (length b.now ≡ m) × (length c.old ≡ r) × (length x.old ≡ n) }
-    ensures { x.new ≡ solution m n tolerance d.now b.now }
+pub fn solution(p: Parts, tolerance: f64, b: &[f64], c: &mut [f64], x: &mut [f64])
+    requires { (length b.now ≡ p.m) × (length c.old ≡ p.r) × (length x.old ≡ p.n) }
+    ensures { x.new ≡ solution_of p.entry.m p.entry.r p.entry.n tolerance p.entry.s.now p.entry.u.now p.entry.vt.now b.now }
 {
-    let e = r + m * r;
-    column_sums(m, r, &d[r..e], b, c);
-    coefficients(r, tolerance, &d[..r], c);
-    column_sums(r, n, &d[e..], c, x);
+    column_sums(p.m, p.r, p.u, b, c);
+    coefficients(p.r, tolerance, p.s, c);
+    column_sums(p.r, p.n, p.vt, c, x);
 }

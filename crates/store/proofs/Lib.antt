@@ -1,2 +1,3 @@
 -- What the functions' proofs share.
 mod Fits
+mod Found

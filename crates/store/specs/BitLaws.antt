@@ -1,62 +1,20 @@
 -- Numbers below 65,536 as bits of 1,024 words: which are set, and what one more sets. Laws only.
-use Rattle.std.specs.Prelude.{◌≡◌, refl, Bool, true, false, cond, List, [], ◌∷◌, ℕ, zero, suc, ◌+◌, ◌-◌, ◌*◌, ◌/◌, ◌%◌, ◌^◌, ◌≤◌, ◌<◌, ltb, eqb, length, drop, get_or, set, replicate}
+use Rattle.std.specs.Prelude.{◌≡◌, refl, Bool, true, false, cond, List, [], ◌∷◌, ℕ, zero, suc, ◌+◌, ◌-◌, ◌*◌, ◌/◌, ◌%◌, ◌^◌, ◌≤◌, ◌<◌, ltb, eqb, length, drop, get_or, set, replicate, reverse}
+use Rattle.std.specs.Int.{bit_at}
+use Rattle.std.specs.Int.Bits.{bit_and, bit_or}
 use Rattle.std.proofs.Math.Path.{sym, ap}
-use Rattle.std.proofs.Common.{◌∙◌, subst, mod-lt, div-add-mod', pow-suc, one-mul, add-one, arith, ltb-true, ltb-false, eqb-true, lt-ltb, le-ltb, eq-eqb, length-set, drop-cons, get_or-set_same, get_or-set_other, pow_pos, pow-add, shl_exact}
-use Rattle.std.proofs.Math.Nat.{div-eq_of_lt, div_self, zero-div, mul-mod_left}
+use Rattle.std.proofs.Common.{Fits, w16, w64, ◌∙◌, subst, mod-lt, div-add-mod', add-one, arith, ltb-true, ltb-false, eqb-true, lt-ltb, le-ltb, eq-eqb, length-set, drop-cons, get_or-set_same, get_or-set_other, pow_pos, shl_exact, one-mul, zero-mul}
+use Rattle.std.proofs.Math.Nat.{sub-zero}
 use Rattle.std.proofs.lemmas.Bool.{eqb-false}
-use Rattle.std.proofs.lemmas.List.{length-replicate, get_or-replicate}
+use Rattle.std.proofs.lemmas.List.{length-replicate, get_or-replicate, get_or-reverse, length-reverse}
+use Rattle.std.proofs.lemmas.Grind.{get_or_default_zero}
 use Rattle.std.proofs.Math.Seq.{drop-length}
-use Rattle.std.proofs.Math.Pow.{pow-lt}
-use Rattle.std.proofs.lemmas.Nat.{shl-shr, or_shr, or_mod}
-use Rattle.std.specs.Int.Bits.{bit_or, or_self, or_zero_r}
+use Rattle.std.proofs.lemmas.Nat.Bits.{bit_at-zero, bit_at-lt, bit_at_set_same, bit_at_set_other, and_pow}
 use Rattle.store_definition.specs.Store.{place, distinct}
 
-abbrev pub bit : ℕ → ℕ → ℕ
-bit k w = w / 2 ^ k % 2
-
--- ---- a word with one bit more
-
-bit_or_lem : (k a b : ℕ) → bit k (bit_or a b) ≡ bit_or (bit k a) (bit k b)
-bit_or_lem k a b = ap (λ (x : ℕ). x % 2) (or_shr a b k) ∙ or_mod (a / 2 ^ k) (b / 2 ^ k) 1
-
-bit_below : (k a : ℕ) → bit k a < 2
-bit_below k a = mod-lt (a / 2 ^ k) (omega arith)
-
-bit_here : (k : ℕ) → bit k (2 ^ k) ≡ 1
-bit_here k = ap (λ (x : ℕ). x % 2) (div_self (pow_pos k))
-
--- j is above k by d + 1, or below it
-bit_above : (k d : ℕ) → bit k (2 ^ (suc d + k)) ≡ 0
-bit_above k d =
-    ap (λ (x : ℕ). x / 2 ^ k % 2) (pow-add 2 (suc d) k) ∙ ap (λ (x : ℕ). x % 2) (shl-shr (2 ^ suc d) k) ∙ ap (λ (x : ℕ). x % 2) (pow-suc 2 d) ∙ mul-mod_left (2 ^ d) 2
-
-bit_under : (k j : ℕ) → j < k → bit k (2 ^ j) ≡ 0
-bit_under k j h = ap (λ (x : ℕ). x % 2) (div-eq_of_lt (pow-lt h))
-
-bit_elsewhere : (k j : ℕ) → (k ≡ j → ⊥) → bit k (2 ^ j) ≡ 0
-bit_elsewhere k j ne = go (ltb j k) refl
-  where
-    go : (b : Bool) → ltb j k ≡ b → bit k (2 ^ j) ≡ 0
-    go true e = bit_under k j (ltb-true j k e)
-    go false e =
-        let d : ℕ = j - k - 1 in
-        let f : j ≡ suc d + k = omega (arith, ltb-false j k e, ne) in
-        ap (λ (x : ℕ). bit k (2 ^ x)) f ∙ bit_above k d
-
-or_one : (x : ℕ) → x < 2 → bit_or x 1 ≡ 1
-or_one zero h = refl
-or_one (suc zero) h = or_self 1
-or_one (suc (suc x)) h = absurd (omega arith)
-
-set_here : (k w : ℕ) → bit k (bit_or w (2 ^ k)) ≡ 1
-set_here k w = bit_or_lem k w (2 ^ k) ∙ ap (bit_or (bit k w)) (bit_here k) ∙ or_one (bit k w) (bit_below k w)
-
-set_elsewhere : (k j w : ℕ) → (k ≡ j → ⊥) → bit k (bit_or w (2 ^ j)) ≡ bit k w
-set_elsewhere k j w ne = bit_or_lem k w (2 ^ j) ∙ ap (bit_or (bit k w)) (bit_elsewhere k j ne) ∙ or_zero_r (bit k w)
-
--- what `1 << k` is
-pub one_shifted : (k : ℕ) → k < 64 → 1 * 2 ^ k % 2 ^ 64 ≡ 2 ^ k
-one_shifted k h = shl_exact 1 k 64 (omega arith) (omega arith) ∙ one-mul (2 ^ k)
+-- a number's bit in its word, as `1 << (t % 64)` computes
+abbrev pub bit_of : ℕ → ℕ
+bit_of t = 1 * 2 ^ (t % 64) % 2 ^ 64
 
 -- ---- a number is among others
 
@@ -79,7 +37,26 @@ among_cons x y l = go (eqb y x)
     go false = ltb_suc (place x l) (length l)
 
 abbrev pub marked : List ℕ → ℕ → Bool
-marked seen x = eqb (bit (x % 64) (get_or seen (x / 64) 0)) 1
+marked seen x = eqb (bit_at (get_or seen (x / 64) 0) (x % 64)) 1
+
+bit_product : (b p : ℕ) → b < 2 → 0 < p → (b * p ≡ 0 → eqb b 1 ≡ false) × ((b * p ≡ 0 → ⊥) → eqb b 1 ≡ true)
+bit_product zero p h k = (λ e. refl, λ n. absurd (n (zero-mul p)))
+bit_product (suc zero) p h k = (λ e. absurd (omega (arith, sym (one-mul p) ∙ e)), λ n. refl)
+bit_product (suc (suc b)) p h k = absurd (omega arith)
+
+-- the code's test of it
+module _ (w t : ℕ) where
+  below_64 : t % 64 < 64
+  below_64 = mod-lt t (omega arith)
+
+  tested : bit_and w (bit_of t) ≡ bit_at w (t % 64) * 2 ^ (t % 64)
+  tested = ap (bit_and w) (shl_exact 1 (t % 64) 64 (omega arith) (omega (arith, below_64)) ∙ one-mul (2 ^ (t % 64))) ∙ and_pow w (t % 64)
+
+  test_off : bit_and w (bit_of t) ≡ 0 → eqb (bit_at w (t % 64)) 1 ≡ false
+  test_off e = (bit_product (bit_at w (t % 64)) (2 ^ (t % 64)) (bit_at-lt w (t % 64)) (pow_pos (t % 64))).0 (sym tested ∙ e)
+
+  test_on : (bit_and w (bit_of t) ≡ 0 → ⊥) → eqb (bit_at w (t % 64)) 1 ≡ true
+  test_on e = (bit_product (bit_at w (t % 64)) (2 ^ (t % 64)) (bit_at-lt w (t % 64)) (pow_pos (t % 64))).1 (λ x. e (tested ∙ x))
 
 -- the words have just the bits of the numbers of l
 pub record Marks (seen l : List ℕ) : Type 0 where
@@ -92,23 +69,23 @@ marks_none = record { sized = length-replicate {A = ℕ} 1024 0; says = none }
   where
     none : (x : ℕ) → x < 65536 → marked (replicate {A = ℕ} 1024 0) x ≡ false
     none x h =
-        ap (λ (w : ℕ). eqb (bit (x % 64) w) 1) (get_or-replicate {A = ℕ} 1024 (x / 64) 0 0 (omega arith))
-        ∙ ap (λ (q : ℕ). eqb (q % 2) 1) (zero-div (2 ^ (x % 64)))
+        ap (λ (w : ℕ). eqb (bit_at w (x % 64)) 1) (get_or-replicate {A = ℕ} 1024 (x / 64) 0 0 (omega arith))
+        ∙ ap (λ (b : ℕ). eqb b 1) (bit_at-zero (x % 64))
 
 same_number : (x t : ℕ) → x / 64 ≡ t / 64 → x % 64 ≡ t % 64 → x ≡ t
 same_number x t e f = sym (div-add-mod' x 64) ∙ ap (λ (q : ℕ). q * 64 + x % 64) e ∙ ap (λ (r : ℕ). t / 64 * 64 + r) f ∙ div-add-mod' t 64
 
 module _ (seen : List ℕ) (t : ℕ) (z : length seen ≡ 1024) (small : t < 65536) where
   abbrev w : ℕ
-  w = bit_or (get_or seen (t / 64) 0) (2 ^ (t % 64))
+  w = bit_or (get_or seen (t / 64) 0) (bit_of t)
 
   abbrev more : List ℕ
   more = set seen (t / 64) w
 
   more_here : marked more t ≡ true
   more_here =
-      eq-eqb (bit (t % 64) (get_or more (t / 64) 0)) 1
-      (ap (bit (t % 64)) (get_or-set_same seen (t / 64) w 0 (omega (arith, z))) ∙ set_here (t % 64) (get_or seen (t / 64) 0))
+      eq-eqb (bit_at (get_or more (t / 64) 0) (t % 64)) 1
+      (ap (λ (v : ℕ). bit_at v (t % 64)) (get_or-set_same seen (t / 64) w 0 (omega (arith, z))) ∙ bit_at_set_same w64 (get_or seen (t / 64) 0) (t % 64) (mod-lt t (omega arith)))
 
   more_elsewhere : (x : ℕ) → (x ≡ t → ⊥) → marked more x ≡ marked seen x
   more_elsewhere x ne = go (eqb (x / 64) (t / 64)) refl
@@ -117,11 +94,11 @@ module _ (seen : List ℕ) (t : ℕ) (z : length seen ≡ 1024) (small : t < 655
       go true e =
           let s : x / 64 ≡ t / 64 = eqb-true (x / 64) (t / 64) e in
           let d : x % 64 ≡ t % 64 → ⊥ = λ f. ne (same_number x t s f) in
-          ap (λ (k : ℕ). eqb (bit (x % 64) (get_or more k 0)) 1) s
-          ∙ ap (λ (v : ℕ). eqb (bit (x % 64) v) 1) (get_or-set_same seen (t / 64) w 0 (omega (arith, z)))
-          ∙ ap (λ (v : ℕ). eqb v 1) (set_elsewhere (x % 64) (t % 64) (get_or seen (t / 64) 0) d)
-          ∙ ap (λ (k : ℕ). eqb (bit (x % 64) (get_or seen k 0)) 1) (sym s)
-      go false e = ap (λ (v : ℕ). eqb (bit (x % 64) v) 1) (get_or-set_other seen (t / 64) (x / 64) w 0 (eqb-false (x / 64) (t / 64) e))
+          ap (λ (k : ℕ). eqb (bit_at (get_or more k 0) (x % 64)) 1) s
+          ∙ ap (λ (v : ℕ). eqb (bit_at v (x % 64)) 1) (get_or-set_same seen (t / 64) w 0 (omega (arith, z)))
+          ∙ ap (λ (v : ℕ). eqb v 1) (bit_at_set_other w64 (get_or seen (t / 64) 0) (t % 64) (mod-lt t (omega arith)) (x % 64) d)
+          ∙ ap (λ (k : ℕ). eqb (bit_at (get_or seen k 0) (x % 64)) 1) (sym s)
+      go false e = ap (λ (v : ℕ). eqb (bit_at v (x % 64)) 1) (get_or-set_other seen (t / 64) (x / 64) w 0 (eqb-false (x / 64) (t / 64) e))
 
   marks_cons : (l : List ℕ) → Marks seen l → Marks more (t ∷ l)
   marks_cons l m = record { sized = length-set seen (t / 64) _ ∙ z; says = λ x h. go x h (eqb t x) refl ∙ sym (among_cons x t l) }
@@ -158,7 +135,7 @@ module _ (s : List ℕ) (i : ℕ) (h : i < length s) where
     unfolding distinct
     marks_twice e = sym (distinct_fails i s (ap distinct cut ∙ rw (sym (m.says t small) ∙ e)))
 
-    marks_more : Marks (set seen (t / 64) (bit_or (get_or seen (t / 64) 0) (2 ^ (t % 64)))) (drop i s)
+    marks_more : Marks (set seen (t / 64) (bit_or (get_or seen (t / 64) 0) (bit_of t))) (drop i s)
     marks_more = subst (Marks (more seen t m.sized small)) (sym cut) (marks_cons seen t m.sized small (drop (i + 1) s) m)
 
     distinct_more : marked seen t ≡ false → distinct (drop (i + 1) s) ≡ true → distinct (drop i s) ≡ true
@@ -170,43 +147,54 @@ pub record Seen (s seen : List ℕ) (i : ℕ) : Type 0 where
   pub marks : Marks seen (drop i s)
   pub apart : distinct (drop i s) ≡ true
 
-pub seen_none : (s : List ℕ) → Seen s (replicate {A = ℕ} 1024 0) (length s)
+pub seen_none : (s : List ℕ) → Seen s (replicate {A = ℕ} 1024 0) (length s - 0)
 unfolding distinct
-seen_none s = record {
+seen_none s = rw sub-zero (record {
   marks = subst (Marks (replicate {A = ℕ} 1024 0)) (sym (drop-length s)) marks_none;
   apart = ap distinct (drop-length s);
-}
+})
 
 pub seen_whole : (s seen : List ℕ) (i : ℕ) → i ≤ 0 → Seen s seen i → true ≡ distinct s
 seen_whole s seen i h g =
     let e : i ≡ 0 = omega arith in
     sym (subst (λ (j : ℕ). distinct (drop j s) ≡ true) e g.apart)
 
--- a turn, at number i - 1: k is its word's place, r whether its bit is set
-module _ (s seen : List ℕ) (i k : ℕ) (r : Bool) (pos : 0 < i) (h : i ≤ length s) (g : Seen s seen i) (e : k ≡ get_or s (i - 1) 0 / 64) (b : k < 1024)
-    (f : r ≡ eqb (bit (get_or s (i - 1) 0 % 64) (get_or seen k 0)) 1) where
-  back : i ≡ i - 1 + 1
-  back = omega arith
+-- a turn, at the number t, from behind, with n met before; its bit is tested and set in word k
+module _ (s seen : List ℕ) (n t k : ℕ) (met : (n < length (reverse s)) × (t ≡ get_or (reverse s) n t)) (g : Seen s seen (length s - n)) (fits : (j : ℕ) → Fits w16 (get_or s j 0)) (e : k ≡ t / 64) where
+  abbrev i : ℕ
+  i = length s - n - 1
 
-  marks_back : Marks seen (drop (i - 1 + 1) s)
+  below : i < length s
+  below = omega (arith, met.0, length-reverse s)
+
+  back : length s - n ≡ i + 1
+  back = omega (arith, met.0, length-reverse s)
+
+  stands : t ≡ get_or s i 0
+  stands =
+      met.1 ∙ get_or-reverse s n t (omega (arith, met.0, length-reverse s)) ∙ ap (λ (j : ℕ). get_or s j t) (omega arith)
+      ∙ get_or_default_zero s i t below
+
+  marks_back : Marks seen (drop (i + 1) s)
   marks_back = subst (λ (j : ℕ). Marks seen (drop j s)) back g.marks
 
-  small : get_or s (i - 1) 0 < 65536
-  small = omega (arith, e, b)
+  small : get_or s i 0 < 65536
+  small = omega (arith, fits i)
 
-  is_marked : marked seen (get_or s (i - 1) 0) ≡ r
-  is_marked = ap (λ (j : ℕ). eqb (bit (get_or s (i - 1) 0 % 64) (get_or seen j 0)) 1) (sym e) ∙ sym f
+  at : (b : Bool) → eqb (bit_at (get_or seen k 0) (t % 64)) 1 ≡ b → marked seen (get_or s i 0) ≡ b
+  at b x = subst (λ (y : ℕ). marked seen y ≡ b) stands (subst (λ (j : ℕ). eqb (bit_at (get_or seen j 0) (t % 64)) 1 ≡ b) e x)
 
-  pub seen_twice : r ≡ true → false ≡ distinct s
-  seen_twice x = marks_twice s (i - 1) (omega arith) seen small marks_back (is_marked ∙ x)
+  pub seen_twice : (bit_and (get_or seen k 0) (bit_of t) ≡ 0 → ⊥) → false ≡ distinct s
+  seen_twice x = marks_twice s i below seen small marks_back (at true (test_on (get_or seen k 0) t x))
 
-  pub seen_more : r ≡ false → (v : ℕ) → v ≡ bit_or (get_or seen k 0) (2 ^ (get_or s (i - 1) 0 % 64)) → Seen s (set seen k v) (i - 1)
-  seen_more x v y = record {
-    marks =
-        subst (λ (u : ℕ). Marks (set seen k u) (drop (i - 1) s)) (sym y)
-        (subst (λ (j : ℕ). Marks (set seen j (bit_or (get_or seen j 0) (2 ^ (get_or s (i - 1) 0 % 64)))) (drop (i - 1) s)) (sym e)
-        (marks_more s (i - 1) (omega arith) seen small marks_back));
-    apart =
-        distinct_more s (i - 1) (omega arith) seen small marks_back (is_marked ∙ x)
-        (subst (λ (j : ℕ). distinct (drop j s) ≡ true) back g.apart);
-  }
+  pub seen_more : bit_and (get_or seen k 0) (bit_of t) ≡ 0 → (m : ℕ) → m ≡ n + 1 → Seen s (set seen k (bit_or (get_or seen k 0) (bit_of t))) (length s - m)
+  seen_more x m p =
+      subst (Seen s (set seen k (bit_or (get_or seen k 0) (bit_of t)))) (omega arith) (record {
+        marks =
+            subst (λ (j : ℕ). Marks (set seen j (bit_or (get_or seen j 0) (bit_of t))) (drop i s)) (sym e)
+            (subst (λ (z : ℕ). Marks (set seen (z / 64) (bit_or (get_or seen (z / 64) 0) (bit_of z))) (drop i s)) (sym stands)
+            (marks_more s i below seen small marks_back));
+        apart =
+            distinct_more s i below seen small marks_back (at false (test_off (get_or seen k 0) t x))
+            (subst (λ (j : ℕ). distinct (drop j s) ≡ true) back g.apart);
+      })

@@ -1,8 +1,7 @@
 -- A list whose set-up is damaged in one number is refused with 39 by every call, whatever else is in it; one of an owner that is damaged by a reset too.
 use Rattle.std.specs.Prelude.{◌≡◌, refl, Bool, true, false, ◌&&◌, List, [], ℕ, zero, suc, ◌≤◌, length, get_or}
-use Rattle.std.proofs.Common.{sym, ap, ◌∙◌, arith, le-leb}
+use Rattle.std.proofs.Common.{sym, ◌∙◌, arith, le-leb}
 use Rattle.answers.specs.Answers.{refused}
-use Rattle.store_definition.specs.Store.{room_of}
 use Rattle.store_definition.specs.Calls.{Call, Put, Length, Fetch, Drop, Arrays}
 use Rattle.store_definition.specs.Owners.{laid, barred, sound_for, sound_both, reset, put_for, length_for, fetch_for, drop_for}
 use Rattle.store_definition.proofs.LaidLaws.{Laid, laid_facts}

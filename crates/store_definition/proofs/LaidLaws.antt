@@ -1,9 +1,9 @@
 -- What is known of arrays that a set-up of two owners left, and of an owner's parts of them. Laws only.
 use Rattle.std.proofs.Math.Path.{◌≡◌, refl}
-use Rattle.std.proofs.Common.{sym, ◌∙◌, arith}
-use Rattle.std.specs.Prelude.{Bool, cond, not, ◌&&◌, List, ℕ, zero, suc, ◌+◌, ◌-◌, ◌≤◌, ◌<◌, eqb, length}
+use Rattle.std.proofs.Common.{arith}
+use Rattle.std.specs.Prelude.{Bool, cond, not, ◌&&◌, List, ℕ, zero, suc, ◌+◌, ◌≤◌, ◌<◌, eqb, length}
 use Rattle.std.proofs.Math.Bool.{true, false}
-use borrow.Author.Tests.{leb-true, eqb-true, eqb-false, le-leb, lt-leb, eq-eqb, ne_eqb}
+use borrow.Author.Tests.{leb-true, eqb-true, le-leb, lt-leb, eq-eqb}
 use Rattle.std.proofs.Math.Dec.{leb}
 use Rattle.std.proofs.Math.ListN.{get_or}
 use Rattle.grid.specs.LoopLaws.{both}
@@ -82,15 +82,3 @@ pub bounded : (owner : ℕ) (list : List ℕ) → owner ≤ 1 → start_for owne
 bounded zero list h = omega arith
 bounded (suc zero) list h = omega arith
 bounded (suc (suc owner)) list h = absurd (omega arith)
-
--- what a part's length is, as the code has it
-pub minus_is : (a n : ℕ) → a + n - a ≡ n
-minus_is a n = omega arith
-
--- the code's test for what is left over
-pub eqb_minus : (c room a b : ℕ) → a ≤ room → b ≤ room - a → eqb c (room - a - b) ≡ eqb (a + b + c) room
-eqb_minus c room a b h k = go (eqb (a + b + c) room) refl
-  where
-    go : (x : Bool) → eqb (a + b + c) room ≡ x → eqb c (room - a - b) ≡ eqb (a + b + c) room
-    go true e = eq-eqb c (room - a - b) (omega (arith, eqb-true (a + b + c) room e)) ∙ sym e
-    go false e = ne_eqb c (room - a - b) (λ x. eqb-false (a + b + c) room e (omega (arith, x))) ∙ sym e

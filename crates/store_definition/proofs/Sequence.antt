@@ -11,14 +11,14 @@ use Rattle.std.proofs.Math.Dec.{eqb}
 use Rattle.std.proofs.Math.ListN.{length, take, drop, set, length-append, length-drop}
 use Rattle.std.proofs.Math.Seq.{length-take-le, take-length, paste}
 use Rattle.std.proofs.lemmas.List.Edits.{take-paste, length-paste}
-use Rattle.std.proofs.lemmas.List.{get_or_at}
+use Rattle.std.proofs.lemmas.List.{drop-take, get_or_at}
 use Rattle.answers.specs.declared.Answer.{Answer}
 use Rattle.answers.specs.Answers.{done, refused}
 use Rattle.store_definition.specs.Store.{place, sum, distinct, listed, sound, closed, held_of, room_of, set_up, put_of, length_held, fetch_of, drop_of}
 use Rattle.store_definition.specs.SoundLaws.{Facts, facts, sounds, listed_lists, listed_tiled}
 use Rattle.store_definition.specs.StartLaws.{sum_append}
 use Rattle.store_definition.specs.Calls.{Call, Put, Length, Fetch, Drop, Event, Do, Reset, Seen, run, Map, sizes, map_call, map_step, Arrays, store_call, store_reset, store_step, shown, map_of}
-use Rattle.store_definition.specs.ListLaws.{drop_take, closed_cut, closed_length, part_of, front_of, Fresh, fresh_of, distinct_of, distinct_is, distinct_append, distinct_cut}
+use Rattle.store_definition.specs.ListLaws.{closed_cut, closed_length, part_of, front_of, Fresh, fresh_of, distinct_of, distinct_is, distinct_append, distinct_cut}
 use Rattle.store_definition.specs.MapLaws.{keys, flat, keys_append, sizes_append, flat_append, keys_length, sizes_length, flat_length, Split, Missing, split}
 
 -- ---- the list: room, number held, and the lengths
@@ -517,7 +517,7 @@ shown_whole (x ∷ m) b e =
     let f : take n b ≡ x.1 =
     sym (take-take n (n + sum (sizes m)) b (omega arith)) ∙ ap (take n) e ∙ take_at x.1 (flat m) n refl in
     let g : take (sum (sizes m)) (drop n b) ≡ flat m =
-    sym (drop_take n (sum (sizes m)) b) ∙ ap (drop n) e ∙ drop_at x.1 (flat m) n refl in
+    sym (drop-take n (sum (sizes m)) b) ∙ ap (drop n) e ∙ drop_at x.1 (flat m) n refl in
     ap (λ (l : List ℕ). (x.0, l) ∷ shown (keys m) (sizes m) (drop n b)) f ∙ ap (λ (l : Map). x ∷ l) (shown_whole m (drop n b) g)
 
 map_within : (entries room : ℕ) (s : Arrays) (m : Map) → Within entries room s m → map_of s ≡ m

@@ -1,21 +1,13 @@
 -- Laws of lists that the sequence theorem goes by: parts of a buffer's front, and lists with no number twice. Laws only.
-use Rattle.std.specs.Prelude.{◌≡◌, refl, Bool, true, false, cond, List, [], ◌∷◌, ◌++◌, ℕ, zero, suc, ◌+◌, ◌-◌, ◌≤◌, ltb, eqb, length, take, drop}
-use Rattle.std.proofs.Common.{sym, ap, ◌∙◌, true≢false, append_assoc, zero-add, suc-add, arith, ltb-false, ne_eqb, le-ltb, length-append, length-drop, take-append-drop, length-take-le, take-take, take_at, drop_at}
+use Rattle.std.specs.Prelude.{◌≡◌, refl, Bool, true, false, cond, List, [], ◌∷◌, ◌++◌, ℕ, suc, ◌+◌, ◌-◌, ◌≤◌, ltb, eqb, length, take, drop}
+use Rattle.std.proofs.Common.{sym, ap, ◌∙◌, true≢false, append_assoc, arith, ltb-false, ne_eqb, le-ltb, length-append, length-drop, take-append-drop, length-take-le, take-take, take_at, drop_at}
 use Rattle.std.proofs.lemmas.Bool.{eqb-false}
+use Rattle.std.proofs.lemmas.List.{drop-take}
 use Rattle.std.proofs.Math.Seq.{paste}
 use Rattle.std.proofs.lemmas.List.Edits.{take-paste, length-paste}
 use Rattle.store_definition.specs.Store.{place, distinct, closed}
 
 module _ {A : Type 0} where
-  pub drop_take : (i j : ℕ) (l : List A) → drop i (take (i + j) l) ≡ take j (drop i l)
-  drop_take zero j l = rw (zero-add j)
-  drop_take (suc i) j [] = rw (suc-add i j) (none j)
-    where
-      none : (j : ℕ) → ◌≡◌ {A = List A} [] (take j [])
-      none zero = refl
-      none (suc j) = refl
-  drop_take (suc i) j (x ∷ l) = rw (suc-add i j) (drop_take i j l)
-
   -- l's front is p, q, r: p and r one behind the other after q is closed
   module _ (l p q r : List A) (n : ℕ) (e : take n l ≡ p ++ (q ++ r)) (h : n ≤ length l) where
     lengths : n ≡ length p + (length q + length r)
@@ -30,7 +22,7 @@ module _ {A : Type 0} where
         let front : take at l ≡ p = sym (take-take at n l (omega (arith, lengths))) ∙ ap (take at) e ∙ take_at p (q ++ r) at a in
         let pq : length (p ++ q) ≡ at + w = simp length-append (omega arith) in
         let back : take j s ≡ r =
-        sym (drop_take (at + w) j l) ∙ ap (λ (i : ℕ). drop (at + w) (take i l)) m ∙ ap (drop (at + w)) (e ∙ sym (append_assoc p q r)) ∙ drop_at (p ++ q) r (at + w) pq in
+        sym (drop-take (at + w) j l) ∙ ap (λ (i : ℕ). drop (at + w) (take i l)) m ∙ ap (drop (at + w)) (e ∙ sym (append_assoc p q r)) ∙ drop_at (p ++ q) r (at + w) pq in
         ap (λ (i : ℕ). take i (paste l at s j)) k ∙ take-paste l at s j (omega (arith, lengths)) (omega (arith, lengths, length-drop (at + w) l))
         ∙ ap (λ (x : List A). x ++ take j s) front ∙ ap (λ (x : List A). p ++ x) back
 

@@ -1,9 +1,8 @@
 -- Parts of a list: put back, and read beside one that was put back. Laws only.
 use Rattle.std.specs.Prelude.{◌≡◌, ◌⊎◌, List, ◌++◌, ℕ, ◌+◌, ◌-◌, ◌≤◌, ◌<◌, length, take, drop, get_or, set}
 use Rattle.std.proofs.Common.{sym, ap, ◌∙◌, ⊎_elim, append_assoc, arith, length-append, length-drop, take-append-drop, length-take-le, take_at, drop_at, take-take, drop-drop, get_or-take, get_or-drop, drop-set-lt}
-use Rattle.std.proofs.lemmas.List.{drop-append-le, take-append-le, take-set-le, drop-set-add}
+use Rattle.std.proofs.lemmas.List.{drop-take, drop-append-le, take-append-le, take-set-le, drop-set-add}
 use Rattle.std.proofs.Math.Seq.{drop-append-add, take-set-lt}
-use Rattle.store_definition.specs.ListLaws.{drop_take}
 use Rattle.store_definition.specs.Owners.{part, patched}
 
 module _ (l : List ℕ) (a n : ℕ) (h : a + n ≤ length l) where
@@ -31,7 +30,7 @@ module _ (l : List ℕ) (a n : ℕ) (h : a + n ≤ length l) where
     part_before b m k =
         let y : List ℕ = p ++ drop n (drop a l) in
         let c : a ≡ b + (a - b) = omega arith in
-        let d : drop b (take a l) ≡ take (a - b) (drop b l) = ap (λ (j : ℕ). drop b (take j l)) c ∙ drop_take b (a - b) l in
+        let d : drop b (take a l) ≡ take (a - b) (drop b l) = ap (λ (j : ℕ). drop b (take j l)) c ∙ drop-take b (a - b) l in
         ap (take m) (drop-append-le b (take a l) y (omega (arith, front_length)))
         ∙ take-append-le m (drop b (take a l)) y (omega (arith, front_length, length-drop b (take a l)))
         ∙ ap (take m) d ∙ take-take m (a - b) (drop b l) (omega arith)

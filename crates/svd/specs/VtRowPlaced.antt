@@ -1,10 +1,8 @@
 -- A row's part by its numbers is the part: what it holds, and where it starts. So C's pointer and index name what `vt_row` returns. Laws only.
-use Rattle.std.specs.Prelude.{◌≡◌, refl, ℕ, ◌+◌, ◌*◌, take, drop}
+use Rattle.std.specs.Prelude.{◌≡◌, refl, ℕ, ◌+◌, ◌*◌, take, drop, Option, Some, None}
 use Rattle.std.proofs.Common.{ap, arith}
 use Rattle.grid.specs.Real.{Vec}
 use Rattle.svd.specs.VtRow.{part_of, part_at, extent_of}
-use Rattle.svd.specs.declared.vt_row.Span.{Span}
-use Rattle.svd.specs.declared.vt_row.Span.TheVariants.{At, Missing}
 
 from_zero : (o : ℕ) → 0 + o ≡ o
 from_zero o = omega arith
@@ -12,10 +10,10 @@ from_zero o = omega arith
 pub at_start : (p : ℕ × ℕ) → (p.0, 0 + p.1) ≡ p
 at_start p = ap (λ (o : ℕ). (p.0, o)) (from_zero p.1)
 
-pub extent_part : (xs : Vec) (s : Span) → take (extent_of s).length (drop (extent_of s).start xs) ≡ part_of xs s
-extent_part xs (At a e) = refl
-extent_part xs Missing = refl
+pub extent_part : (xs : Vec) (s : Option (ℕ × ℕ)) → take (extent_of s).length (drop (extent_of s).start xs) ≡ part_of xs s
+extent_part xs (Some s) = refl
+extent_part xs None = refl
 
-pub extent_at : (p : ℕ × ℕ) (s : Span) → (p.0, (extent_of s).start * 8 + p.1) ≡ part_at p s
-extent_at p (At a e) = refl
-extent_at p Missing = at_start p
+pub extent_at : (p : ℕ × ℕ) (s : Option (ℕ × ℕ)) → (p.0, (extent_of s).start * 8 + p.1) ≡ part_at p s
+extent_at p (Some s) = refl
+extent_at p None = at_start p

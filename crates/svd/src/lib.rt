@@ -5,6 +5,7 @@ pub mod vt_row; // Row j of V^T in an svd result: the part that it is, and the s
 
 ghost use Rattle.std.specs.Prelude.{◌≡◌, cond, ◌+◌, ◌*◌, ◌≤◌, ◌<◌, eqb, length};
 ghost use Rattle.answers.specs.Answers.{least};
+ghost use Rattle.answers.specs.Refusals.{verdict};
 ghost use Rattle.svd_jacobi_svd_tall.specs.SweepLengths.{Sized};
 ghost use Rattle.svd_sort_svd_descending.specs.Result.{longest, work_length, sorted_out};
 ghost use Rattle.svd.specs.Svd.{source, checks, svd};
@@ -12,8 +13,9 @@ ghost use Rattle.svd.specs.LoadedLaws.{column_loaded, matrix_loaded, eyed, ran_i
 ghost use Rattle.svd_sort_svd_descending.specs.ResultSizes.{Checked};
 
 use answers::checks::{lengths, limit_good};
-use answers::{Answer, decomposition_length, least, refusal7, refused};
-use grid::{LARGEST, entry, fill, put1};
+use answers::refusal::Refusal;
+use answers::{Answer, decomposition_length, least};
+use grid::{LARGEST, entry, fill};
 use leaves::scan::first_bad;
 use svd_jacobi_svd_tall::jacobi;
 use svd_sort_svd_descending::{longest, sorted_out};
@@ -26,7 +28,7 @@ fn work_length(m: usize, n: usize) -> usize
     longest(m, n) * r + r * r + r
 }
 
-// Refusals 1, 2 and 6, for arrays of a, b and c numbers.
+// Refusals 1, 2 and 6, for arrays of a, b and c numbers. The flags are numbers here and below, as C gives them: 0 is no.
 fn checks(
     m: usize,
     n: usize,
@@ -36,20 +38,17 @@ fn checks(
     a: usize,
     b: usize,
     c: usize,
-) -> Answer
-    ensures { result ≡ checks m n want_u want_vt limit a b c }
+) -> Result<(), Refusal>
+    ensures { verdict result ≡ checks m n want_u want_vt limit a b c }
 {
-    if m > LARGEST {
-        return refused(1, 0);
+    if m > LARGEST || n > LARGEST {
+        return Err(Refusal::Dimension);
     }
-    if n > LARGEST {
-        return refused(1, 0);
+    if !limit_good(limit) {
+        return Err(Refusal::Limit);
     }
-    if limit_good(limit) {
-        let result = decomposition_length(m, n, want_u, want_vt);
-        return lengths(a, m * n, b, work_length(m, n), c, result);
-    }
-    refused(2, 0)
+    let result = decomposition_length(m, n, want_u, want_vt);
+    lengths(&[(a, m * n), (b, work_length(m, n)), (c, result)])
 }
 
 // Row i, column j of the matrix, or of its transpose where m < n.
@@ -58,9 +57,10 @@ fn source(m: usize, n: usize, a: &[f64], i: usize, j: usize) -> f64
     ensures { result ≡ source m n a.now i j }
 {
     if m < n {
-        return entry(a, m, n, j, i);
+        entry(a, m, n, j, i)
+    } else {
+        entry(a, m, n, i, j)
     }
-    entry(a, m, n, i, j)
 }
 
 fn load_column(m: usize, n: usize, rows: usize, a: &[f64], j: usize, w: &mut [f64])
@@ -68,7 +68,7 @@ fn load_column(m: usize, n: usize, rows: usize, a: &[f64], j: usize, w: &mut [f6
     ensures { w.new ≡ column_loaded m n rows a.now j w.old }
 {
     for i in 0..rows {
-        put1(w, j * rows + i, source(m, n, a, i, j));
+        w[j * rows + i] = source(m, n, a, i, j);
     }
 }
 
@@ -87,7 +87,7 @@ fn load_eye(rows: usize, cols: usize, w: &mut [f64])
     ensures { w.new ≡ eyed rows cols w.old }
 {
     for j in 0..cols {
-        put1(w, rows * cols + j * cols + j, 1.0);
+        w[rows * cols + j * cols + j] = 1.0;
     }
 }
 
@@ -144,7 +144,7 @@ pub fn svd(
 ) -> Answer
     ensures { (result, work.new, res.new) ≡ svd m n want_u want_vt limit matrix.now work.old res.old }
 {
-    let c = checks(
+    if let Err(r) = checks(
         m,
         n,
         want_u,
@@ -153,15 +153,13 @@ pub fn svd(
         matrix.len(),
         work.len(),
         res.len(),
-    );
-    if c.answer != 0 {
-        return c;
+    ) {
+        return r.into();
     }
     fill(work);
     fill(res);
-    let b = refusal7(first_bad(matrix));
-    if b.answer != 0 {
-        return b;
+    if let Some(bad) = first_bad(matrix) {
+        return Refusal::NotFinite(bad.index).into();
     }
     run(m, n, want_u, want_vt, limit, matrix, work, res)
 }

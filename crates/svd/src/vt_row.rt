@@ -6,35 +6,28 @@ ghost use Rattle.svd.specs.VtRowLaws.{Within};
 use answers::{decomposition_length, least, present};
 use grid::LARGEST;
 
-// Where a row of V^T stands in a decomposition.
-#[derive(Clone, Copy)]
-pub enum Span {
-    At(usize, usize),
-    Missing,
-}
-
-fn row_span(len: usize, m: usize, n: usize, has_u: usize, has_vt: usize, j: usize) -> Span
+// Where a row of V^T stands in a decomposition: from an index up to another. The flags are numbers, as C gives them: 0 is no.
+#[tactic(auto, using(crate::specs::VtRowLaws::row_fits, crate::specs::VtRowLaws::u_small))]
+fn row_span(
+    len: usize,
+    m: usize,
+    n: usize,
+    has_u: usize,
+    has_vt: usize,
+    j: usize,
+) -> Option<(usize, usize)>
     ensures value { result ≡ row_span len m n has_u has_vt j }
     ensures within { Within len result }
 {
-    if m > LARGEST {
-        return Span::Missing;
-    }
-    if n > LARGEST {
-        return Span::Missing;
-    }
-    if has_vt == 0 {
-        return Span::Missing;
+    if m > LARGEST || n > LARGEST || has_vt == 0 {
+        return None;
     }
     let r = least(m, n);
-    if j >= r {
-        return Span::Missing;
-    }
-    if len != decomposition_length(m, n, has_u, has_vt) {
-        return Span::Missing;
+    if j >= r || len != decomposition_length(m, n, has_u, has_vt) {
+        return None;
     }
     let a = r + present(has_u, m * r) + j * n;
-    Span::At(a, a + n)
+    Some((a, a + n))
 }
 
 // Row j of V^T: that part of the decomposition.
@@ -49,7 +42,7 @@ pub fn vt_row<'a>(
     ensures result_value { result.now ≡ part_of decomposition.now (row_span (length decomposition.now) m n has_u has_vt j) }
     ensures ref_ptr_value { result.ref_ptr ≡ part_at decomposition.entry.ref_ptr (row_span (length decomposition.now) m n has_u has_vt j) }
 {
-    let Span::At(a, e) = row_span(decomposition.len(), m, n, has_u, has_vt, j) else {
+    let Some((a, e)) = row_span(decomposition.len(), m, n, has_u, has_vt, j) else {
         return &decomposition[0..0];
     };
     &decomposition[a..e]
@@ -73,7 +66,7 @@ pub fn vt_row_extent(
 ) -> Extent
     ensures { result ≡ extent_of (row_span len m n has_u has_vt j) }
 {
-    let Span::At(a, e) = row_span(len, m, n, has_u, has_vt, j) else {
+    let Some((a, e)) = row_span(len, m, n, has_u, has_vt, j) else {
         return Extent {
             start: 0,
             length: 0,

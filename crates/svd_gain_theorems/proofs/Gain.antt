@@ -1,5 +1,5 @@
 -- **Gain does not move the basis** (`gain_keeps_basis`): two calls of `svd`, of a matrix and of 2 ^ k times it, k of either sign. Laws only.
-use Rattle.std.specs.Prelude.{◌≡◌, refl, Bool, true, false, cond, map, ℕ, zero, suc, ◌+◌, ◌≤◌, ◌<◌, min, ℤ, pos, negsuc, ◌+ℤ◌, neg_ℤ, Float, length, take, drop}
+use Rattle.std.specs.Prelude.{◌≡◌, refl, Bool, true, false, cond, map, ℕ, zero, suc, ◌+◌, ◌≤◌, ◌<◌, min, ℤ, pos, negsuc, neg_ℤ, Float, length, take, drop}
 use Rattle.std.proofs.Common.{sym, ap, ◌∙◌, subst₂, true≢false, arith, eq-eqb, length-take, length-drop, get_or-take, get_or-drop, ext_get_or}
 use Rattle.std.proofs.Math.IntN.{+ℤ-neg_ℤ_cancel}
 use Rattle.std.specs.Float.{nan, inf, fin}

@@ -9,7 +9,7 @@ use Rattle.std.proofs.Math.Nat.{div-div-eq-div-mul}
 use Rattle.std.proofs.Math.Dec.{eqb-suc-zero}
 use Rattle.std.specs.Int.Count.{count_trailing_zeros}
 use Rattle.std.specs.Float.{nan, inf, fin, binary64}
-use Rattle.std.specs.Float.Ieee.{low, up, down, minus, size, odd, units, round}
+use Rattle.std.specs.Float.Ieee.{up, down, minus, size, odd, units, round}
 use Rattle.std.specs.Float.Ieee.Digits.{size-lt, size-le, size_reaches, odd_val}
 use Rattle.std.specs.Float.Ieee.Fits.{round_is, down_pos}
 use Rattle.std.specs.Float.Ieee.Exact.{HasValue, units_val, odd_sign}

@@ -1,8 +1,8 @@
 -- The sweeps, in two runs whose first factors differ by 2 ^ k: they give the same answers, and their factors differ as before. Laws only.
-use Rattle.std.specs.Prelude.{◌≡◌, refl, Bool, false, not, ℕ, ◌+◌, ◌*◌, ◌<◌, eqb, take, drop}
+use Rattle.leaves.specs.declared.Bad.{Bad}
+use Rattle.std.specs.Prelude.{◌≡◌, refl, Bool, false, not, ℕ, ◌+◌, ◌*◌, ◌<◌, eqb, take, drop, Option}
 use Rattle.std.proofs.Common.{ap, ap₂, ◌∙◌, arith}
 use Rattle.grid.specs.Real.{Vec}
-use Rattle.leaves.specs.declared.Bad.{Bad}
 use Rattle.answers.specs.declared.Answer.{Answer}
 use Rattle.svd_jacobi_svd_tall.specs.Sweep.{pair_done, pairs_of, sweep}
 use Rattle.svd_jacobi_svd_tall.specs.Marks.{factors_bad}
@@ -51,7 +51,7 @@ swept_runs k rows cols x y f g h =
     let l = sweep_level k rows cols x.1 y.1 f g h.both in
     record {
       answers =
-          ap (λ (b : Bad). verdict b (sweep rows cols y.1).0 (y.0.count + 1)) (factors_same rows cols _ _ (match (under k (rows * cols)) _ _ l.both))
+          ap (λ (b : Option Bad). verdict b (sweep rows cols y.1).0 (y.0.count + 1)) (factors_same rows cols _ _ (match (under k (rows * cols)) _ _ l.both))
           ∙ ap₂ (λ b (a : Answer). verdict (factors_bad rows cols (sweep rows cols x.1).1) b (a.count + 1)) l.flag h.answers;
       both = l.both;
     }

@@ -1,6 +1,7 @@
 -- The values, in two runs whose first factors differ by 2 ^ k: the norms differ by 2 ^ k, and a column that is divided by its norm is the same in both. Laws only.
 -- A column whose norm is zero is all zeros, since no square of a nonzero number is zero, and so it is the same in both too.
-use Rattle.std.specs.Prelude.{◌≡◌, Bool, true, false, cond, ◌||◌, T, ltb, pos, Float, set, take, drop}
+use Rattle.leaves.specs.declared.Bad.{Bad}
+use Rattle.std.specs.Prelude.{◌≡◌, Bool, true, false, cond, ◌||◌, T, ltb, pos, Float, set, take, drop, Option}
 use Rattle.std.proofs.Math.Path.{refl, sym, subst}
 use Rattle.std.proofs.Common.{ap, ap₂, ◌∙◌, true≢false, add-zero, add-mul, zero-mul, mul_comm, one-mul, arith, ltb-true, ltb-false, lt-ltb, le-ltb, get_or-set_other}
 use Prim.Native.Nat.{ℕ, ◌+◌, ◌-◌, ◌*◌, ◌≤◌, ◌<◌}
@@ -12,7 +13,6 @@ use Rattle.grid.specs.LoopLaws.{upto_both}
 use Rattle.grid.specs.Real.{Vec, at, zero64, ◌⊗◌, ◌⊘◌}
 use Rattle.root.specs.Root.{root}
 use Rattle.root.specs.Nearest.{counted}
-use Rattle.leaves.specs.declared.Bad.{Bad}
 use Rattle.answers.specs.Answers.{passed, marked}
 use Rattle.answers.specs.declared.Answer.{Answer}
 use Rattle.grid.specs.TableLaws.{row_end}
@@ -279,7 +279,7 @@ module _ (k rows cols : ℕ) where
           rw (ends, e)
           (record {
             answers =
-                ap₂ (λ (b : Bad) (a : Answer). marked 2 a.count b)
+                ap₂ (λ (b : Option Bad) (a : Answer). marked 2 a.count b)
                 (all_same _ _ (match (stage k rows cols (rows * cols) cols) _ _ both)) runs.answers;
             worked = λ _. both;
           })

@@ -1,15 +1,15 @@
 -- The scans find the same in two vectors that are alike: an infinity and a NaN stay what they are under a power of two, and where they were. Laws only.
-use Rattle.std.specs.Prelude.{◌≡◌, refl, Bool, true, false, cond, not, ◌++◌, ℕ, ◌+◌, ◌*◌, ◌/◌, ◌≤◌, ◌<◌, ltb, ℤ, pos, Float, length, take, drop}
+use Rattle.std.specs.Prelude.{◌≡◌, refl, Bool, true, false, cond, not, ◌++◌, ℕ, ◌+◌, ◌*◌, ◌/◌, ◌≤◌, ◌<◌, ltb, ℤ, pos, Float, length, take, drop, None}
 use Rattle.std.proofs.Common.{sym, ap, ◌∙◌, arith, ltb-true, ltb-false, length-take, length-drop, get_or-take, get_or-drop}
 use Rattle.std.specs.Float.{nan, inf, fin}
+use Rattle.std.specs.Option.{option_or}
 use Rattle.std.proofs.Math.ListN.{get_or-eq_default}
 use Rattle.grid.specs.Loop.{first}
 use Rattle.grid.specs.Real.{Vec, at}
 use Rattle.grid.specs.TableLaws.{length_table}
 use Rattle.leaves.specs.Leaf.{is_finite}
-use Rattle.leaves.specs.Scan.{class_of, scan, first_bad, place_of, by_rows}
-use Rattle.leaves.specs.ScanLaws.{first_same, or_else, behind, scan_both, first_bad_of, by_rows_lem}
-use Rattle.leaves.specs.declared.Bad.TheVariants.{At, Nowhere}
+use Rattle.leaves.specs.Scan.{class_of, scan, first_bad, place_of, by_rows, bad_at}
+use Rattle.leaves.specs.ScanLaws.{first_same, behind, scan_both, first_bad_of, by_rows_lem}
 use Rattle.svd_gain_theorems.specs.Scale.{scale}
 use Rattle.svd_gain_theorems.specs.Alike.{Alike}
 use Rattle.svd_gain_theorems.specs.Compare.{finite_scaled}
@@ -64,8 +64,8 @@ pub scan_match : (x y : ℕ → Float) (n : ℕ) → ((k : ℕ) → is_finite (y
 unfolding scan
 scan_match x y n f c =
     let r : ℕ = first (λ k. not (is_finite (x k))) 0 n in
-    ap (λ (k : ℕ). cond (ltb k n) (At k (class_of (y k))) Nowhere) (first_same (λ k. not (is_finite (y k))) (λ k. not (is_finite (x k))) n (λ k l. ap not (f k)))
-    ∙ ap (λ (t : ℕ). cond (ltb r n) (At r t) Nowhere) (c r)
+    ap (λ (k : ℕ). cond (ltb k n) (bad_at k (class_of (y k))) None) (first_same (λ k. not (is_finite (y k))) (λ k. not (is_finite (x k))) n (λ k l. ap not (f k)))
+    ∙ ap (λ (t : ℕ). cond (ltb r n) (bad_at r t) None) (c r)
 
 pub bad_same : (w v : Vec) → Match w v → first_bad v ≡ first_bad w
 bad_same w v h = ap (scan (at v)) h.long ∙ scan_match (at w) (at v) (length w) h.finite h.class
@@ -88,7 +88,7 @@ rows_long cols w v h = length_table _ (length v / cols * cols) ∙ ap (λ (n : �
 -- one list behind another
 pub both_same : (d e d' e' : Vec) → length d' ≡ length d → first_bad d' ≡ first_bad d → first_bad e' ≡ first_bad e → first_bad (d' ++ e') ≡ first_bad (d ++ e)
 both_same d e d' e' l p q =
-    scan_both d' e' ∙ (λ i. or_else (p i) (behind (l i) (q i))) ∙ sym (scan_both d e)
+    scan_both d' e' ∙ (λ i. option_or (p i) (behind (l i) (q i))) ∙ sym (scan_both d e)
 
 -- two matrices, one behind the other
 pub pair_same : (cols : ℕ) (d e d' e' : Vec) → Match d d' → Match e e' → first_bad (by_rows cols d' ++ by_rows cols e') ≡ first_bad (by_rows cols d ++ by_rows cols e)

@@ -1,13 +1,12 @@
 -- What a call of `svd` leaves in the arrays that it was lent. Laws only.
-use Rattle.std.specs.Prelude.{◌≡◌, ◌⊎◌, Bool, true, false, cond, ℕ, length}
+use Rattle.leaves.specs.declared.Bad.{Bad}
+use Rattle.std.specs.Prelude.{◌≡◌, ◌⊎◌, Bool, true, false, cond, ℕ, length, Option, Some, None}
 use Rattle.std.proofs.Math.Path.{refl}
 use Rattle.std.proofs.Common.{ap, ⊎_elim, arith, ne_eqb}
 use Rattle.std.proofs.lemmas.List.{length-replicate}
 use Rattle.grid.specs.Real.{Vec, zero64, zeros}
 use Rattle.leaves.specs.Scan.{first_bad}
 use Rattle.leaves.specs.ScanLaws.{first_class}
-use Rattle.leaves.specs.declared.Bad.{Bad}
-use Rattle.leaves.specs.declared.Bad.TheVariants.{At, Nowhere}
 use Rattle.answers.specs.Answers.{passed, least, refusal7}
 use Rattle.answers.specs.Early.{Early}
 use Rattle.answers.proofs.OutcomeLaws.{few_early}
@@ -32,9 +31,9 @@ late rows cols limit w o (at_mark2 {a = a} s f) e = late_class o.0 (first_class 
 late rows cols limit w o (at_mark1 {a = a} {i = i} s) e = late_class o.0 (swept_class rows cols s a i refl) e
 late rows cols limit w o (at_limit s) e = omega (arith, e.few)
 
-seven : (b : Bad) → Early (refusal7 b) → ⊥
-seven (At k c) e = omega (arith, e.few)
-seven Nowhere e = omega (arith, e.some)
+seven : (b : Option Bad) → Early (refusal7 b) → ⊥
+seven (Some bad) e = omega (arith, e.few)
+seven None e = omega (arith, e.some)
 
 module _ (m n want_u want_vt limit : ℕ) (matrix work result : Vec) where
   pub svd_left : Left work result (svd m n want_u want_vt limit matrix work result)

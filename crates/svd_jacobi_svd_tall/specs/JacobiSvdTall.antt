@@ -1,9 +1,8 @@
 -- `jacobi_svd_tall` of document 000, operation for operation, over one sweep. Definitions only.
-use Rattle.std.specs.Prelude.{Bool, cond, not, ℕ, ◌+◌, eqb}
+use Rattle.leaves.specs.declared.Bad.{Bad}
+use Rattle.std.specs.Prelude.{Bool, cond, not, ℕ, ◌+◌, eqb, Option, is_some}
 use Rattle.grid.specs.Loop.{rounds}
 use Rattle.grid.specs.Real.{Vec}
-use Rattle.leaves.specs.Scan.{is_bad}
-use Rattle.leaves.specs.declared.Bad.{Bad}
 use Rattle.answers.specs.Answers.{answered, done, passed, marked}
 use Rattle.answers.specs.declared.Answer.{Answer}
 use Rattle.svd_jacobi_svd_tall.specs.Sweep.{sweep}
@@ -15,8 +14,8 @@ abbrev pub going_after : ℕ → Answer
 going_after count = answered 9 count 0 count
 
 -- after sweep number count: mark 1, then settled if no pair turned (was rotated), then the limit, if no sweep follows
-unfoldable pub verdict : Bad → Bool → ℕ → Answer
-verdict b changed count = cond (is_bad b) (marked 1 count b) (cond changed (going_after count) (done count))
+unfoldable pub verdict : Option Bad → Bool → ℕ → Answer
+verdict b changed count = cond (is_some b) (marked 1 count b) (cond changed (going_after count) (done count))
 
 -- one sweep more, and what is said after it
 unfoldable pub swept : ℕ → ℕ → Answer × Vec → Answer × Vec

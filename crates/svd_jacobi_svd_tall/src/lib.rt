@@ -6,79 +6,51 @@ pub mod sweep; // One sweep of one-sided Jacobi over the work array w, which hol
 mod singular_values; // The values of a run of one-sided Jacobi and its columns over them, on the work array w of `sweep`
 mod marks; // What the marks of a run of one-sided Jacobi find in its values and factors, on the work array w of `sweep`
 
-ghost use Rattle.std.specs.Prelude.{◌≡◌, ◌≤◌, ◌<◌};
+ghost use Rattle.std.specs.Prelude.{◌≡◌, ◌≤◌, false, IfErr};
+ghost use Rattle.answers.specs.Answers.{done, passed};
 ghost use Rattle.svd_jacobi_svd_tall.specs.SweepLengths.{Sized};
-ghost use Rattle.svd_jacobi_svd_tall.specs.JacobiSvdTall.{going_after, verdict, swept, sweeps, finished, jacobi};
+ghost use Rattle.svd_jacobi_svd_tall.specs.JacobiSvdTall.{sweeps, finished, jacobi};
+ghost use Rattle.svd_jacobi_svd_tall.specs.SweepCount.{told};
 
 use crate::marks::{all_bad, factors_bad};
 use crate::singular_values::normalise;
-use answers::{Answer, answered, done, marked};
-use leaves::{Bad, is_bad};
+use crate::sweep::sweep;
+use answers::{Answer, answered, marked};
 
-// The run goes on after so many sweeps; where the limit leaves no other, this is refusal 9.
-fn going_after(count: usize) -> Answer
-    ensures { result ≡ going_after count }
-{
-    answered(9, count, 0, count)
-}
-
-// What a sweep ends with.
-fn verdict(b: Bad, changed: bool, count: usize) -> Answer
-    ensures { result ≡ verdict b changed count }
-{
-    if is_bad(b) {
-        return marked(1, count, b);
-    }
-    if changed {
-        return going_after(count);
-    }
-    done(count)
-}
-
-// One sweep more.
-fn swept(rows: usize, cols: usize, before: Answer, w: &mut [f64]) -> Answer
-    requires { (before.count < 60) × Sized rows cols w.old }
-    ensures { (result, w.new) ≡ swept rows cols (before, w.old) }
-{
-    let changed = crate::sweep::sweep(rows, cols, w);
-    let b = factors_bad(rows, cols, w);
-    verdict(b, changed, before.count + 1)
-}
-
-// Sweeps until one ends the run, at most limit.
-fn sweeps(rows: usize, cols: usize, limit: usize, w: &mut [f64]) -> Answer
+// Sweeps until one rotates no pair, at most limit: how many, or mark 1, or refusal 9 where the limit leaves no other.
+fn sweeps(rows: usize, cols: usize, limit: usize, w: &mut [f64]) -> Result<usize, Answer>
     requires { (limit ≤ 60) × Sized rows cols w.old }
-    ensures { (result, w.new) ≡ sweeps rows cols limit w.old }
+    ensures value { (told result, w.new) ≡ sweeps rows cols limit w.old }
+    ensures refused { IfErr result (λ a. passed a ≡ false) }
 {
-    let mut run = going_after(0);
-    let mut left = limit;
-    while left > 0 {
-        run = swept(rows, cols, run, w);
-        if run.answer != 9 {
-            return run;
+    for before in 0..limit {
+        let changed = sweep(rows, cols, w);
+        let bad = factors_bad(rows, cols, w);
+        if bad.is_some() {
+            return Err(marked(1, before + 1, bad));
         }
-        left -= 1;
+        if !changed {
+            return Ok(before + 1);
+        }
     }
-    run
+    Err(answered(9, limit, 0, limit))
 }
 
-// The values, where the sweeps settled.
-fn finish(rows: usize, cols: usize, run: Answer, w: &mut [f64]) -> Answer
+// The values, where so many sweeps settled.
+fn finish(rows: usize, cols: usize, count: usize, w: &mut [f64]) -> Answer
     requires { Sized rows cols w.old }
-    ensures { (result, w.new) ≡ finished rows cols (run, w.old) }
+    ensures { (result, w.new) ≡ finished rows cols (done count, w.old) }
 {
     normalise(rows, cols, w);
-    marked(2, run.count, all_bad(rows, cols, w))
+    marked(2, count, all_bad(rows, cols, w))
 }
 
 pub fn jacobi(rows: usize, cols: usize, limit: usize, w: &mut [f64]) -> Answer
     requires { (limit ≤ 60) × Sized rows cols w.old }
     ensures { (result, w.new) ≡ jacobi rows cols limit w.old }
 {
-    let run = sweeps(rows, cols, limit, w);
-    if run.answer == 0 {
-        finish(rows, cols, run, w)
-    } else {
-        run
+    match sweeps(rows, cols, limit, w) {
+        Ok(count) => finish(rows, cols, count, w),
+        Err(refusal) => refusal,
     }
 }

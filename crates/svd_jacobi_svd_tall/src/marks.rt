@@ -3,31 +3,26 @@ ghost use Rattle.std.specs.Prelude.{◌≡◌};
 ghost use Rattle.svd_jacobi_svd_tall.specs.SweepLengths.{Sized};
 ghost use Rattle.svd_jacobi_svd_tall.specs.Marks.{factors_bad, all_bad};
 
+use leaves::Bad;
 use leaves::scan::{behind, first_bad, first_bad_cell};
-use leaves::{Bad, is_bad};
 
 // Mark 1: the first number of the factors that is not finite, row by row, u first.
-pub fn factors_bad(rows: usize, cols: usize, w: &[f64]) -> Bad
+pub fn factors_bad(rows: usize, cols: usize, w: &[f64]) -> Option<Bad>
     requires { Sized rows cols w.now }
     ensures { result ≡ factors_bad rows cols w.now }
 {
     let v = rows * cols;
-    let b = first_bad_cell(cols, &w[..v]);
-    if is_bad(b) {
-        return b;
-    }
-    behind(v, first_bad_cell(cols, &w[v..v + cols * cols]))
+    let u_bad = first_bad_cell(cols, &w[..v]);
+    let v_bad = first_bad_cell(cols, &w[v..v + cols * cols]);
+    u_bad.or(behind(v, v_bad))
 }
 
 // Mark 2: the values, then the factors.
-pub fn all_bad(rows: usize, cols: usize, w: &[f64]) -> Bad
+pub fn all_bad(rows: usize, cols: usize, w: &[f64]) -> Option<Bad>
     requires { Sized rows cols w.now }
     ensures { result ≡ all_bad rows cols w.now }
 {
     let s = rows * cols + cols * cols;
-    let b = first_bad(&w[s..s + cols]);
-    if is_bad(b) {
-        return b;
-    }
-    behind(cols, factors_bad(rows, cols, w))
+    let values_bad = first_bad(&w[s..s + cols]);
+    values_bad.or(behind(cols, factors_bad(rows, cols, w)))
 }

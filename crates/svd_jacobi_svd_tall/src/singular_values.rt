@@ -3,7 +3,6 @@ ghost use Rattle.std.specs.Prelude.{◌≡◌, ◌+◌, ◌≤◌, ◌<◌, leng
 ghost use Rattle.svd_jacobi_svd_tall.specs.SweepLengths.{Sized};
 ghost use Rattle.svd_jacobi_svd_tall.specs.SingularValues.{norm_sq, divided, normal_step, normalised};
 
-use grid::{at1, put1};
 use root::root;
 
 fn norm_sq(w: &[f64], a: usize, rows: usize) -> f64
@@ -12,8 +11,8 @@ fn norm_sq(w: &[f64], a: usize, rows: usize) -> f64
 {
     let mut sum = 0.0;
     for i in 0..rows {
-        let x = at1(w, a + i);
-        sum = sum + x * x;
+        let x = w[a + i];
+        sum += x * x;
     }
     sum
 }
@@ -23,7 +22,7 @@ fn divide(w: &mut [f64], a: usize, rows: usize, norm: f64)
     ensures { w.new ≡ divided a rows norm w.old }
 {
     for i in 0..rows {
-        put1(w, a + i, at1(w, a + i) / norm);
+        w[a + i] /= norm;
     }
 }
 
@@ -33,7 +32,7 @@ fn normalise_column(rows: usize, cols: usize, j: usize, w: &mut [f64])
     ensures { w.new ≡ normal_step rows cols j w.old }
 {
     let norm = root(norm_sq(w, j * rows, rows));
-    put1(w, rows * cols + cols * cols + j, norm);
+    w[rows * cols + cols * cols + j] = norm;
     if norm > 0.0 {
         divide(w, j * rows, rows, norm);
     }

@@ -1,15 +1,16 @@
 // One sweep of one-sided Jacobi over the work array w, which holds the factor u (rows by cols), the factor v (cols by cols), both column by
 // column, and a value for each column. A column is handed on as the index in w at which it begins, so that one function serves
-// both factors and every inner loop walks along memory. Columns p and p + 1 go through the later ones together, p a step ahead: pairs (p, q) and
-// (p + 1, q - 1) are of four different columns, so that neither waits for the other's sums, roots or turns, and pairs that share a column keep their order.
+// both factors and every inner loop walks along memory; by an index, since two columns of one slice are written at once. Columns p and p + 1
+// go through the later ones together, p a step ahead: pairs (p, q) and (p + 1, q - 1) are of four different columns, so that neither waits for
+// the other's sums, roots or turns, and pairs that share a column keep their order.
 ghost use Rattle.std.specs.Prelude.{◌≡◌, ◌+◌, ◌*◌, ◌-◌, ◌≤◌, ◌<◌, length};
 ghost use Rattle.grid.specs.Loop.{upto};
 ghost use Rattle.svd_jacobi_svd_tall.specs.SweepLengths.{Sized};
 ghost use Rattle.svd_jacobi_svd_tall.specs.Sweep.{gram, skipped, sign_of, rotation_of, rotated, pair_done, pairs_of, sweep};
 ghost use Rattle.svd_jacobi_svd_tall.specs.Turned.{turned, pair_by};
+ghost use Rattle.svd_jacobi_svd_tall.specs.SweepSteps.{with_row, zeta_of, tangent, rotation_by};
 
 use crate::skip_test::at_most;
-use grid::{at1, put1};
 use leaves::magnitude;
 use root::root;
 use root::side_by_side::roots;
@@ -30,23 +31,33 @@ pub struct Rotation {
     pub t: f64,
 }
 
+// Before any number.
+const NO_SUMS: Sums = Sums {
+    alpha: 0.0,
+    beta: 0.0,
+    gamma: 0.0,
+};
+
+impl Sums {
+    // With one number more of each column.
+    fn and(self, up: f64, uq: f64) -> Sums
+        ensures { result ≡ with_row up uq self }
+    {
+        Sums {
+            alpha: self.alpha + up * up,
+            beta: self.beta + uq * uq,
+            gamma: self.gamma + up * uq,
+        }
+    }
+}
+
 fn gram(w: &[f64], a: usize, b: usize, rows: usize) -> Sums
     requires { (a + rows ≤ length w.now) × (b + rows ≤ length w.now) }
     ensures { result ≡ gram a b rows w.now }
 {
-    let mut x = Sums {
-        alpha: 0.0,
-        beta: 0.0,
-        gamma: 0.0,
-    };
+    let mut x = NO_SUMS;
     for i in 0..rows {
-        let up = at1(w, a + i);
-        let uq = at1(w, b + i);
-        x = Sums {
-            alpha: x.alpha + up * up,
-            beta: x.beta + uq * uq,
-            gamma: x.gamma + up * uq,
-        };
+        x = x.and(w[a + i], w[b + i]);
     }
     x
 }
@@ -68,13 +79,33 @@ fn sign_of(zeta: f64) -> f64
     if zeta >= 0.0 { 1.0 } else { -1.0 }
 }
 
+fn zeta_of(x: Sums) -> f64
+    ensures { result ≡ zeta_of x }
+{
+    (x.beta - x.alpha) / (2.0 * x.gamma)
+}
+
+// The tangent by zeta and the root of 1 + zeta * zeta.
+fn tangent(zeta: f64, r: f64) -> f64
+    ensures { result ≡ tangent zeta r }
+{
+    sign_of(zeta) / (magnitude(zeta) + r)
+}
+
+// The rotation by its tangent and the root of 1 + t * t.
+fn rotation_by(t: f64, r: f64) -> Rotation
+    ensures { result ≡ rotation_by t r }
+{
+    let c = 1.0 / r;
+    Rotation { c, s: c * t, t }
+}
+
 fn rotation_of(x: Sums) -> Rotation
     ensures { result ≡ rotation_of x }
 {
-    let zeta = (x.beta - x.alpha) / (2.0 * x.gamma);
-    let t = sign_of(zeta) / (magnitude(zeta) + root(1.0 + zeta * zeta));
-    let c = 1.0 / root(1.0 + t * t);
-    Rotation { c, s: c * t, t }
+    let zeta = zeta_of(x);
+    let t = tangent(zeta, root(1.0 + zeta * zeta));
+    rotation_by(t, root(1.0 + t * t))
 }
 
 // Turns the columns at a and b.
@@ -83,10 +114,10 @@ fn rotate(w: &mut [f64], a: usize, b: usize, rows: usize, rot: Rotation)
     ensures { w.new ≡ rotated a b rows rot w.old }
 {
     for i in 0..rows {
-        let up = at1(w, a + i);
-        let uq = at1(w, b + i);
-        put1(w, a + i, rot.c * up - rot.s * uq);
-        put1(w, b + i, rot.s * up + rot.c * uq);
+        let up = w[a + i];
+        let uq = w[b + i];
+        w[a + i] = rot.c * up - rot.s * uq;
+        w[b + i] = rot.s * up + rot.c * uq;
     }
 }
 
@@ -129,73 +160,31 @@ fn pair(rows: usize, cols: usize, p: usize, q: usize, changed: bool, w: &mut [f6
 
 // ---- two pairs of four different columns side by side
 
-// The sums of both pairs.
-#[derive(Clone, Copy)]
-struct TwoSums {
-    first: Sums,
-    second: Sums,
-}
-
-// Their rotations.
-#[derive(Clone, Copy)]
-struct TwoRotations {
-    first: Rotation,
-    second: Rotation,
-}
-
-// Of the columns at a and b, and of those at e and f, in one walk.
-fn gram_two(w: &[f64], a: usize, b: usize, e: usize, f: usize, rows: usize) -> TwoSums
+// `gram` of the columns at a and b, and of those at e and f, in one walk: `gram` twice is slower.
+fn gram_two(w: &[f64], a: usize, b: usize, e: usize, f: usize, rows: usize) -> (Sums, Sums)
     requires { (a + rows ≤ length w.now) × (b + rows ≤ length w.now) × (e + rows ≤ length w.now) × (f + rows ≤ length w.now) }
-    ensures { (result.first ≡ gram a b rows w.now) × (result.second ≡ gram e f rows w.now) }
+    ensures { result ≡ (gram a b rows w.now, gram e f rows w.now) }
 {
-    let mut x = Sums {
-        alpha: 0.0,
-        beta: 0.0,
-        gamma: 0.0,
-    };
-    let mut y = x;
+    let mut x = NO_SUMS;
+    let mut y = NO_SUMS;
     for i in 0..rows {
-        let up = at1(w, a + i);
-        let uq = at1(w, b + i);
-        let ue = at1(w, e + i);
-        let uf = at1(w, f + i);
-        x = Sums {
-            alpha: x.alpha + up * up,
-            beta: x.beta + uq * uq,
-            gamma: x.gamma + up * uq,
-        };
-        y = Sums {
-            alpha: y.alpha + ue * ue,
-            beta: y.beta + uf * uf,
-            gamma: y.gamma + ue * uf,
-        };
+        x = x.and(w[a + i], w[b + i]);
+        y = y.and(w[e + i], w[f + i]);
     }
-    TwoSums {
-        first: x,
-        second: y,
-    }
+    (x, y)
 }
 
-// `rotation_of` both, the roots two at a time: eta, u and d are to y what zeta, t and c are to x.
-fn rotations_of(x: Sums, y: Sums) -> TwoRotations
-    ensures { (result.first ≡ rotation_of x) × (result.second ≡ rotation_of y) }
+// `rotation_of` both, the roots two at a time, which is faster than one by one: eta and u are to y what zeta and t are to x.
+fn rotations_of(x: Sums, y: Sums) -> (Rotation, Rotation)
+    ensures { result ≡ (rotation_of x, rotation_of y) }
 {
-    let zeta = (x.beta - x.alpha) / (2.0 * x.gamma);
-    let eta = (y.beta - y.alpha) / (2.0 * y.gamma);
+    let zeta = zeta_of(x);
+    let eta = zeta_of(y);
     let r = roots(1.0 + zeta * zeta, 1.0 + eta * eta);
-    let t = sign_of(zeta) / (magnitude(zeta) + r.first);
-    let u = sign_of(eta) / (magnitude(eta) + r.second);
+    let t = tangent(zeta, r.0);
+    let u = tangent(eta, r.1);
     let k = roots(1.0 + t * t, 1.0 + u * u);
-    let c = 1.0 / k.first;
-    let d = 1.0 / k.second;
-    TwoRotations {
-        first: Rotation { c, s: c * t, t },
-        second: Rotation {
-            c: d,
-            s: d * u,
-            t: u,
-        },
-    }
+    (rotation_by(t, k.0), rotation_by(u, k.1))
 }
 
 // Columns p and q beside columns p + 1 and q - 1.
@@ -203,17 +192,17 @@ fn pair_two(rows: usize, cols: usize, p: usize, q: usize, changed: bool, w: &mut
     requires { (p + 2 < q) × (q < cols) × Sized rows cols w.old }
     ensures { (result, w.new) ≡ pair_done rows cols (p + 1) (q - 1) (pair_done rows cols p q (changed, w.old)) }
 {
-    let g = gram_two(w, p * rows, q * rows, (p + 1) * rows, (q - 1) * rows, rows);
-    if skipped(g.first) {
-        return pair_by(rows, cols, p + 1, q - 1, g.second, changed, w);
+    let (g, h) = gram_two(w, p * rows, q * rows, (p + 1) * rows, (q - 1) * rows, rows);
+    if skipped(g) {
+        return pair_by(rows, cols, p + 1, q - 1, h, changed, w);
     }
-    if skipped(g.second) {
-        turn(rows, cols, p, q, rotation_of(g.first), w);
+    if skipped(h) {
+        turn(rows, cols, p, q, rotation_of(g), w);
         return true;
     }
-    let r = rotations_of(g.first, g.second);
-    turn(rows, cols, p, q, r.first, w);
-    turn(rows, cols, p + 1, q - 1, r.second, w);
+    let (r, s) = rotations_of(g, h);
+    turn(rows, cols, p, q, r, w);
+    turn(rows, cols, p + 1, q - 1, s, w);
     true
 }
 
@@ -250,10 +239,8 @@ pub fn sweep(rows: usize, cols: usize, w: &mut [f64]) -> bool
     ensures { (result, w.new) ≡ sweep rows cols w.old }
 {
     let mut changed = false;
-    let mut p = 0;
-    while p + 1 < cols {
-        changed = two_rows(rows, cols, p, changed, w);
-        p += 2;
+    for e in (1..cols).step_by(2) {
+        changed = two_rows(rows, cols, e - 1, changed, w);
     }
     changed
 }

@@ -1,6 +1,7 @@
 -- A column's place is below r, and so is the column that comes to a place; and the list in which the code notes the columns at their places. Laws only.
-use Rattle.std.specs.Prelude.{◌≡◌, refl, Bool, true, false, cond, List, ℕ, zero, suc, ◌+◌, ◌<◌, ◌≤◌, ltb, eqb, Float, length, set, get_or, replicate}
-use Rattle.std.proofs.Common.{sym, ap, ◌∙◌, add-one, arith, le-ltb, eqb-true, ltb-true, ltb-false, length-set, get_or-set_same, get_or-set_other}
+use Rattle.std.specs.Prelude.{◌≡◌, refl, Bool, true, false, cond, List, ℕ, zero, suc, ◌+◌, ◌<◌, ◌≤◌, ltb, eqb, Float, length, set, get_or, replicate, fold, sum_by, count_by}
+use Rattle.std.specs.List.{range_with_len}
+use Rattle.std.proofs.Common.{sym, ap, ◌∙◌, add-one, add-zero, zero-add, arith, le-ltb, eqb-true, ltb-true, ltb-false, length-set, get_or-set_same, get_or-set_other}
 use Rattle.std.proofs.lemmas.Bool.{eqb-false}
 use Rattle.std.proofs.lemmas.List.{length-replicate, get_or-replicate}
 use Rattle.std.proofs.Math.ListN.{get_or-eq_default}
@@ -61,6 +62,20 @@ pub rank_lt : (s : ℕ → Float) (r k : ℕ) → k < r → rank s r k < r
 rank_lt s r k h =
     rw (rank_total s r k)
     (total_lt (λ j. one (ahead s j k)) k r (λ j. one_le (ahead s j k)) (ap one (ahead_self s k)) h)
+
+-- the sum along a range, and so the count of those before column k
+range_more : (f : ℕ → ℕ) (b a n : ℕ) → fold (λ c x. c + f x) b (range_with_len a (suc n)) ≡ fold (λ c x. c + f x) b (range_with_len a n) + f (a + n)
+range_more f b a zero = ap (λ (k : ℕ). b + f k) (sym (add-zero a))
+range_more f b a (suc n) =
+    let e : a + 1 + n ≡ a + suc n = omega arith in
+    range_more f (b + f a) (a + 1) n ∙ ap (λ (k : ℕ). fold (λ c x. c + f x) (b + f a) (range_with_len (a + 1) n) + f k) e
+
+range_total : (f : ℕ → ℕ) (r : ℕ) → sum_by f (range_with_len 0 r) ≡ total f r
+range_total f zero = sym (total_none f)
+range_total f (suc r) = omega (arith, range_more f 0 0 r, range_total f r, total_more f r, ap f (zero-add r))
+
+pub rank_counted : (s : ℕ → Float) (r k : ℕ) → count_by (λ j. ahead s j k) (range_with_len 0 r) ≡ rank s r k
+rank_counted s r k = range_total (λ j. one (ahead s j k)) r ∙ sym (rank_total s r k)
 
 -- ---- the column at a place
 

@@ -10,13 +10,13 @@ ghost use Rattle.svd_sort_svd_descending.specs.ResultSizes.{Checked, Out};
 
 use crate::order::note;
 use answers::{least, present};
-use grid::{LARGEST, at1, put1};
+use grid::LARGEST;
 
 // L, the larger of m and n.
 pub fn longest(m: usize, n: usize) -> usize
     ensures { result ≡ longest m n }
 {
-    if m < n { n } else { m }
+    m.max(n)
 }
 
 // So many numbers of w go to every down-th number of the result.
@@ -25,7 +25,7 @@ fn column_out(w: &[f64], from: usize, rows: usize, to: usize, down: usize, res: 
     ensures { res.new ≡ column_out from rows to down w.now res.old }
 {
     for i in 0..rows {
-        put1(res, to + i * down, at1(w, from + i));
+        res[to + i * down] = w[from + i];
     }
 }
 

@@ -1,37 +1,28 @@
 // The order of document 000's `sort_svd_descending`, by counting.
-ghost use Rattle.std.specs.Prelude.{◌≡◌, ℕ, ◌+◌, ◌≤◌, ◌<◌, length};
+ghost use Rattle.std.specs.Prelude.{◌≡◌, ℕ, ◌+◌, ◌≤◌, ◌<◌, length, count_by};
+ghost use Rattle.std.specs.List.{range_with_len};
 ghost use Rattle.grid.specs.Real.{at};
-ghost use Rattle.svd_sort_svd_descending.specs.Order.{ahead, rank};
-ghost use Rattle.svd_sort_svd_descending.specs.Rank.{one, noted};
+ghost use Rattle.svd_sort_svd_descending.specs.Order.{ahead};
+ghost use Rattle.svd_sort_svd_descending.specs.Rank.{noted};
 
-use grid::{LARGEST, at1};
+use grid::LARGEST;
 
 // Whether column j comes before column k: its value is the greater, or neither is and j is the lower.
-fn ahead(w: &[f64], from: usize, j: usize, k: usize) -> usize
+fn ahead(w: &[f64], from: usize, j: usize, k: usize) -> bool
     requires { (from + j < length w.now) × (from + k < length w.now) }
-    ensures { result ≡ one (ahead (λ (i : ℕ). at w.now (from + i)) j k) }
+    ensures { result ≡ ahead (λ (i : ℕ). at w.now (from + i)) j k }
 {
-    let sj = at1(w, from + j);
-    let sk = at1(w, from + k);
-    if sk < sj {
-        return 1;
-    }
-    if sj < sk {
-        return 0;
-    }
-    if j < k { 1 } else { 0 }
+    let sj = w[from + j];
+    let sk = w[from + k];
+    sk < sj || !(sj < sk) && j < k
 }
 
 // The place of column k: how many come before it.
 fn rank(w: &[f64], from: usize, r: usize, k: usize) -> usize
     requires { (k < r) × (from + r ≤ length w.now) }
-    ensures { result ≡ rank (λ (i : ℕ). at w.now (from + i)) r k }
+    ensures { result ≡ count_by (λ (j : ℕ). ahead (λ (i : ℕ). at w.now (from + i)) j k) (range_with_len 0 r) }
 {
-    let mut n: usize = 0;
-    for j in 0..r {
-        n = n + ahead(w, from, j, k);
-    }
-    n
+    (0..r).filter(|j| ahead(w, from, *j, k)).count()
 }
 
 // Notes each column at its place.

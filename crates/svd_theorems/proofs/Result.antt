@@ -1,8 +1,8 @@
 -- Where the answer is 0: the cells of U and V^T (`svd_cells_u`, `svd_cells_vt`), so what `vt_row` gives (`vt_row_cells`), and every number of the result is finite (`svd_finite_out`). Laws only.
-use Rattle.std.specs.Prelude.{◌≡◌, refl, Bool, true, false, ltb, leb, take, drop}
+use Rattle.std.specs.Prelude.{◌≡◌, refl, Bool, true, false, ltb, leb, take, drop, Option, Some}
 use Rattle.std.proofs.Math.Path.{ap, subst}
 use Rattle.std.proofs.Common.{◌∙◌, mod-lt, div-lt_iff_lt-mul, mul_comm}
-use Prim.Native.Nat.{ℕ, ◌+◌, ◌*◌, ◌-◌, ◌/◌, ◌%◌, ◌≤◌, ◌<◌}
+use Prim.Native.Nat.{ℕ, ◌+◌, ◌*◌, ◌-◌, ◌/◌, ◌%◌, ◌<◌}
 use Rattle.std.proofs.Math.Nat.{div-add-mod'}
 use Rattle.std.proofs.Math.Decide.{dec_lt}
 use native.Mathlib.Omega.{arith}
@@ -16,8 +16,6 @@ use Rattle.leaves.specs.Leaf.{is_finite}
 use Rattle.answers.specs.Answers.{least, present, decomposition_length}
 use Rattle.svd_theorems.specs.SweepsOutcome.{Whole}
 use Rattle.svd_sort_svd_descending.specs.Rank.{order_below}
-use Rattle.svd.specs.declared.vt_row.Span.{Span}
-use Rattle.svd.specs.declared.vt_row.Span.TheVariants.{At}
 use Rattle.svd_sort_svd_descending.specs.Result.{longest, value_of, u_factor, v_factor, order_of}
 use Rattle.svd_sort_svd_descending.specs.OutLaws.{offset, sorted_long, sorted_u, sorted_vt, in_part, some}
 use Rattle.svd.specs.Svd.{svd}
@@ -57,11 +55,11 @@ module _ (m n want_u want_vt limit : ℕ) (matrix work result : Vec) (z : (svd m
   vt_row_cells flag k j p q =
       let res : Vec = (svd m n want_u want_vt limit matrix work result).2 in
       let a : ℕ = least m n + present want_u (m * least m n) + k * n in
-      let there : row_span (length res) m n want_u want_vt k ≡ At a (a + n) =
+      let there : row_span (length res) m n want_u want_vt k ≡ Some (a, a + n) =
       rw (le-leb m 256 taken.tall, le-leb n 256 taken.wide, ne_eqb want_vt 0 flag, lt-ltb k (least m n) p, eq-eqb (length res) (decomposition_length m n want_u want_vt) svd_long) in
       let whole : a + n - a ≡ n = omega arith in
       let here : a + j ≡ vt_cell m n want_u k j = omega arith in
-      ap (λ (s : Span). at (part_of res s) j) there
+      ap (λ (s : Option (ℕ × ℕ)). at (part_of res s) j) there
       ∙ ap (λ (l : ℕ). at (take l (drop a res)) j) whole
       ∙ get_or-take n (drop a res) j nan q
       ∙ get_or-drop a res j nan

@@ -1,5 +1,6 @@
 -- What `jacobi` gives is what the run gives (`run_gives`), which is one outcome at most (`gives_once`), and the sweeps that settle are document 000's own (`swept_document`). Laws only.
-use Rattle.std.specs.Prelude.{◌≡◌, ◌⊎◌, Bool, true, false, cond, not, eqb, Float, length, take, drop}
+use Rattle.leaves.specs.declared.Bad.{Bad}
+use Rattle.std.specs.Prelude.{◌≡◌, ◌⊎◌, Bool, true, false, cond, not, eqb, Float, length, take, drop, Option, Some, None, is_some}
 use Rattle.std.proofs.Math.Path.{refl, ap, subst}
 use Rattle.std.proofs.Common.{sym, ◌∙◌, ⊎_elim, true≢false, arith, ne_eqb, length-drop, get_or-take, get_or-drop, length-take-le, take_all}
 use Prim.Native.Nat.{ℕ, zero, suc, ◌+◌, ◌*◌, ◌≤◌, ◌<◌}
@@ -8,12 +9,10 @@ use Rattle.std.specs.Float.{nan}
 use Rattle.grid.specs.Loop.{rounds}
 use Rattle.grid.specs.Real.{Vec, at}
 use Rattle.leaves.specs.Leaf.{is_finite}
-use Rattle.leaves.specs.Scan.{by_rows, is_bad}
+use Rattle.leaves.specs.Scan.{by_rows}
 use Rattle.leaves.specs.Finite.{Finite, First}
 use Rattle.leaves.specs.FiniteLaws.{scan_finite, finite_scan, cells_finite, finite_rows, both_finite, finite_both}
 use Rattle.leaves.specs.ScanLaws.{scan_first, first_once, first_class, fine_no_first}
-use Rattle.leaves.specs.declared.Bad.{Bad}
-use Rattle.leaves.specs.declared.Bad.TheVariants.{At, Nowhere}
 use Rattle.answers.specs.Answers.{answered, done, passed, marked}
 use Rattle.answers.specs.declared.Answer.{Answer}
 use Rattle.svd_jacobi_svd_tall.specs.Marks.{factors, factors_bad, values_factors, all_bad}
@@ -89,15 +88,15 @@ module _ (rows cols : ℕ) (w : Vec) (long : length w ≡ rows * cols + cols * c
         second = part_of w (rows * cols) (cols * cols) (omega arith) g;
       }
 
-  pub sound_of : is_bad (factors_bad rows cols w) ≡ false → Sound rows cols w
+  pub sound_of : is_some (factors_bad rows cols w) ≡ false → Sound rows cols w
   unfolding factors_bad
   sound_of h = fine_sound (scan_finite (factors rows cols w) h)
 
-  pub of_sound : Sound rows cols w → is_bad (factors_bad rows cols w) ≡ false
+  pub of_sound : Sound rows cols w → is_some (factors_bad rows cols w) ≡ false
   unfolding factors_bad
   of_sound s = finite_scan (factors rows cols w) (sound_fine rows cols w s)
 
-  pub whole_of : is_bad (all_bad rows cols w) ≡ false → Whole rows cols w
+  pub whole_of : is_some (all_bad rows cols w) ≡ false → Whole rows cols w
   unfolding all_bad
   whole_of h =
       let o = finite_both (take cols (drop (value_at rows cols 0) w)) (factors rows cols w) (scan_finite (values_factors rows cols w) h) in
@@ -107,7 +106,7 @@ module _ (rows cols : ℕ) (w : Vec) (long : length w ≡ rows * cols + cols * c
             subst (λ (t : ℕ). is_finite (at w t) ≡ true) (omega arith) g);
       }
 
-  pub of_whole : Whole rows cols w → is_bad (all_bad rows cols w) ≡ false
+  pub of_whole : Whole rows cols w → is_some (all_bad rows cols w) ≡ false
   unfolding all_bad
   of_whole s = finite_scan (values_factors rows cols w) (whole_fine rows cols w s)
 
@@ -155,9 +154,9 @@ next : Left → Left
 next t = (suc t.0, t.1, t.2)
 
 -- what mark 1 saw
-halt : Bad → End
-halt (At i a) = bad a i
-halt Nowhere = here
+halt : Option Bad → End
+halt (Some found) = bad found.class found.index
+halt None = here
 
 swept_once : (rows cols : ℕ) {k c : ℕ} {w : Vec} {e : End} {y : Vec} {b : ℕ} {f : End} {z : Vec} → Swept rows cols k c w e y → Swept rows cols k b w f z
     → ◌≡◌ {A = Left} (c, e, y) (b, f, z)
@@ -249,10 +248,10 @@ module _ (rows cols : ℕ) where
       n : ℕ
       n = x.0.count + 1
 
-      go : (b : Bad) → factors_bad rows cols w ≡ b → (q : Bool) → (sweep rows cols x.1).0 ≡ q → Once rows cols x (swept rows cols x)
-      go (At k a) e q f = sees a k (λ j. cond (is_bad (e j)) (marked 1 n (e j)) (cond (sweep rows cols x.1).0 (going_after n) (done n))) (scan_first _ _ k a e)
-      go Nowhere e true f = on (λ j. cond (is_bad (e j)) (marked 1 n (e j)) (cond (f j) (going_after n) (done n))) (sound_of rows cols w long (ap is_bad e)) f
-      go Nowhere e false f = settles (λ j. cond (is_bad (e j)) (marked 1 n (e j)) (cond (f j) (going_after n) (done n))) (sound_of rows cols w long (ap is_bad e)) f
+      go : (b : Option Bad) → factors_bad rows cols w ≡ b → (q : Bool) → (sweep rows cols x.1).0 ≡ q → Once rows cols x (swept rows cols x)
+      go (Some found) e q f = sees found.class found.index (λ j. cond (is_some (e j)) (marked 1 n (e j)) (cond (sweep rows cols x.1).0 (going_after n) (done n))) (scan_first _ _ found.index found.class e)
+      go None e true f = on (λ j. cond (is_some (e j)) (marked 1 n (e j)) (cond (f j) (going_after n) (done n))) (sound_of rows cols w long (ap is_some e)) f
+      go None e false f = settles (λ j. cond (is_some (e j)) (marked 1 n (e j)) (cond (f j) (going_after n) (done n))) (sound_of rows cols w long (ap is_some e)) f
 
   rounds_came : (k : ℕ) (x : Ended) → x.0 ≡ going_after x.0.count → length x.1 ≡ rows * cols + cols * cols + cols
       → Came rows cols k x (rounds (swept rows cols) ended k x)
@@ -297,9 +296,9 @@ run_gives rows cols limit w l = go a.e a.swept_to (a.gives ∙ ap (numbers a.e) 
     end : Answer → Ended
     end s = cond (passed s) (marked 2 s.count (all_bad rows cols v), v) (s, x.1)
 
-    settled : Swept rows cols limit a.c w here x.1 → (b : Bad) → all_bad rows cols v ≡ b → RunGives rows cols limit w (marked 2 a.c b, v)
-    settled s (At i k) e = at_mark2 s (scan_first _ _ i k e)
-    settled s Nowhere e = well s (whole_of rows cols v long (ap is_bad e))
+    settled : Swept rows cols limit a.c w here x.1 → (b : Option Bad) → all_bad rows cols v ≡ b → RunGives rows cols limit w (marked 2 a.c b, v)
+    settled s (Some found) e = at_mark2 s (scan_first _ _ found.index found.class e)
+    settled s None e = well s (whole_of rows cols v long (ap is_some e))
 
     go : (e : End) → Swept rows cols limit a.c w e x.1 → x.0 ≡ numbers e a.c → RunGives rows cols limit w (end x.0)
     go here s q = subst (λ (t : Answer). RunGives rows cols limit w (end t)) (sym q) (settled s (all_bad rows cols v) refl)

@@ -1,19 +1,21 @@
 // Adding a tile to a tally.
 #![tactic(auto)]
 
-ghost use Rattle.std.specs.Prelude.{◌≡◌};
-ghost use Rattle.tally_definition.specs.Tallies.{small, refusal, outcome, none};
+ghost use Rattle.std.specs.Prelude.{◌≡◌, nat_le};
+ghost use Rattle.std.specs.List.{list_all};
+ghost use Rattle.tally_definition.specs.Figures.{in_range};
+ghost use Rattle.tally_definition.specs.Tallies.{fit, reply_of, outcome, none};
 
-use tally_definition::{Reply, Tally};
+use tally_definition::{Refusal, Tally};
 
 // The tally of no tile.
+#[tactic(auto, unfolding(tally_definition::specs::Tallies::none))]
 pub fn empty() -> Tally
     ensures { result ≡ none }
 {
-    let counts = [0usize; 16];
     Tally {
         tiles: 0,
-        counts: counts,
+        counts: [0; 16],
         passes: 0,
         most: 0,
         first: 0,
@@ -22,75 +24,47 @@ pub fn empty() -> Tally
 
 // Whether no count is over 65,536.
 fn small(counts: &[usize; 16]) -> bool
-    ensures { result ≡ small counts.now }
+    ensures { result ≡ list_all (λ c. nat_le c 65536) counts.now }
 {
-    for a in 0..16 {
-        if counts[a] > 65536 {
-            return false;
-        }
-    }
-    true
+    counts.iter().all(|&count| count <= 65536)
 }
 
-fn refusal(t: Tally, answer: usize, passes: usize) -> usize
-    ensures { result ≡ refusal t answer passes }
+// Whether a tally has room for a tile more, and no figure that no series gives.
+#[tactic(auto, using(crate::specs::OutcomeLaws::small_all), unfolding(tally_definition::specs::Tallies::fit))]
+fn is_fit(t: &Tally) -> bool
+    ensures { result ≡ fit t.now }
 {
-    if answer > 15 {
-        return 38;
-    }
-    if passes > 15360 {
-        return 38;
-    }
-    if t.tiles >= 65536 {
-        return 36;
-    }
-    if t.passes > 1006632960 {
-        return 36;
-    }
-    if t.most > 15360 {
-        return 36;
-    }
-    if t.first > 65535 {
-        return 36;
-    }
-    if small(&t.counts) { 0 } else { 36 }
+    t.tiles < 65536
+        && t.passes <= 1006632960
+        && t.most <= 15360
+        && t.first <= 65535
+        && small(&t.counts)
 }
 
-// The refusal, 0 for none, and the tally after: the same where the tile is refused.
-pub fn added(t: Tally, answer: usize, passes: usize) -> Reply
-    ensures { result ≡ outcome t answer passes }
+// Whether a tile's numbers are in range.
+fn in_range(answer: usize, passes: usize) -> bool
+    ensures { result ≡ in_range answer passes }
 {
-    let r = refusal(t, answer, passes);
-    if r != 0 {
-        return Reply {
-            refusal: r,
-            tally: t,
-        };
+    answer <= 15 && passes <= 15360
+}
+
+// The tally with the tile, or why the tile is refused.
+pub fn added(mut t: Tally, answer: usize, passes: usize) -> Result<Tally, Refusal>
+    ensures { reply_of t result ≡ outcome t answer passes }
+{
+    if !in_range(answer, passes) {
+        return Err(Refusal::OutOfRange);
     }
-    let mut counts = t.counts;
-    counts[answer] = counts[answer] + 1;
+    if !is_fit(&t) {
+        return Err(Refusal::NotFit);
+    }
+    let place = t.tiles;
+    t.tiles += 1;
+    t.counts[answer] += 1;
+    t.passes += passes;
     if t.most < passes {
-        let led = Tally {
-            tiles: t.tiles + 1,
-            counts: counts,
-            passes: t.passes + passes,
-            most: passes,
-            first: t.tiles,
-        };
-        return Reply {
-            refusal: 0,
-            tally: led,
-        };
+        t.most = passes;
+        t.first = place;
     }
-    let more = Tally {
-        tiles: t.tiles + 1,
-        counts: counts,
-        passes: t.passes + passes,
-        most: t.most,
-        first: t.first,
-    };
-    Reply {
-        refusal: 0,
-        tally: more,
-    }
+    Ok(t)
 }

@@ -5,12 +5,11 @@ use Rattle.std.proofs.lemmas.Bool.{eqb-false}
 use Rattle.std.proofs.Math.ListN.{get_or-append}
 use Rattle.std.proofs.lemmas.List.{get_or_at}
 use Rattle.tally_definition.specs.Figures.{Tile, count, table, counts, total, larger, most, place, first, good, goods, accepted}
-use Rattle.tally_definition.specs.Tallies.{small, fit, refusal, next, outcome, none}
+use Rattle.tally_definition.specs.Tallies.{Reply, small, fit, refusal, next, outcome, none}
 use Rattle.tally_definition.specs.Series.{figures, series, taken_of}
 use Rattle.tally_definition.specs.TallyLaws.{Taken, takes}
 use Rattle.grid.specs.LoopLaws.{below_cases, both, every_all}
 use Rattle.tally_definition.specs.declared.Tally.{Tally}
-use Rattle.tally_definition.specs.declared.Reply.{Reply}
 
 -- ---- one tile more at the end of a list
 

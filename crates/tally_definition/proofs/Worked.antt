@@ -1,6 +1,6 @@
 -- A series of tiles with two that are refused, what it leaves, and the edge of each limit of 36, computed.
 use mathlib.Core.Path.{◌≡◌, refl}
-use mathlib.Core.List.{List, [], ◌∷◌}
+use mathlib.Core.List.{[], ◌∷◌}
 use Prim.Native.Nat.{ℕ}
 use Rattle.tally_definition.specs.Figures.{Tile}
 use Rattle.grid.specs.Loop.{every}

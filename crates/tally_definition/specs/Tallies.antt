@@ -1,9 +1,10 @@
 -- What adding a tile does to a tally, for every tally and numbers. Definitions only.
-use Rattle.std.specs.Prelude.{Bool, cond, ◌&&◌, List, ℕ, ◌+◌, ltb, leb, eqb, get_or, set, replicate}
+use Rattle.std.specs.Prelude.{Result, Ok, Err, Bool, cond, ◌&&◌, List, ℕ, ◌+◌, ltb, leb, eqb, get_or, set, replicate}
 use Rattle.grid.specs.Loop.{every}
 use Rattle.tally_definition.specs.Figures.{in_range}
 use Rattle.tally_definition.specs.declared.Tally.{Tally}
-use Rattle.tally_definition.specs.declared.Reply.{Reply}
+use Rattle.tally_definition.specs.declared.Refusal.{Refusal}
+use Rattle.tally_definition.specs.Refusals.{number}
 
 -- the counts of all answers, 0 to 15, are at most 65,536
 unfoldable pub small : List ℕ → Bool
@@ -28,9 +29,19 @@ next t answer passes =
       first = cond (ltb t.most passes) t.tiles t.first;
     }
 
+-- what comes of adding a tile: the refusal, 0 where there is none, and the tally afterwards
+pub record Reply : Type 0 where
+  pub refusal : ℕ
+  pub tally : Tally
+
 -- the refusal, and the tally after: the same where it is refused
 unfoldable pub outcome : Tally → ℕ → ℕ → Reply
 outcome t answer passes = record { refusal = refusal t answer passes; tally = cond (eqb (refusal t answer passes) 0) (next t answer passes) t }
+
+-- the reply of a function that gives the tally after, or why the tile is refused, which leaves the tally t as it is
+abbrev pub reply_of : Tally → Result Tally Refusal → Reply
+reply_of t (Ok u) = record { refusal = 0; tally = u }
+reply_of t (Err r) = record { refusal = number r; tally = t }
 
 -- no tile
 unfoldable pub none : Tally

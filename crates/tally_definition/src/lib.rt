@@ -1,5 +1,8 @@
-// A tally of tiles, and what adding a tile to it comes back with. No code: what adding does stands in specs/, and the crate `tally` does it.
+// A tally of tiles, and why a tile is refused. What adding a tile does stands in specs/, and the crate `tally` does it.
 #![tactic(auto)]
+
+ghost use Rattle.std.specs.Prelude.{◌≡◌};
+ghost use Rattle.tally_definition.specs.Refusals.{number};
 
 // How many tiles, how many with each answer 0 to 15, all their passes, the most passes of one, and the first that had them, from 0.
 #[repr(C)]
@@ -12,9 +15,18 @@ pub struct Tally {
     pub first: usize,
 }
 
-// What comes of adding a tile: the refusal, 0 where there is none, and the tally afterwards.
-#[derive(Clone, Copy)]
-pub struct Reply {
-    pub refusal: usize,
-    pub tally: Tally,
+// Why a tile is refused, by the number that C gets: the tally has no room for a tile more, or a figure that no series gives; or the
+// tile's answer or its passes are out of range.
+#[derive(Clone, Copy, Debug, PartialEq, Eq)]
+pub enum Refusal {
+    NotFit = 36,
+    OutOfRange = 38,
+}
+
+impl From<Refusal> for usize {
+    ghost from_gives = { λ r n. n ≡ number r };
+
+    fn from(refusal: Refusal) -> usize {
+        refusal as usize
+    }
 }

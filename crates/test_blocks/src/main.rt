@@ -11,20 +11,13 @@
 
 ghost use Rattle.std.specs.Prelude.{◌<◌, ◌≤◌, length};
 
-use answers::Answer;
-
-fn wide(x: u8) -> usize
-    ensures { result < 256 }
-{
-    x as usize
-}
-
+// The next u32 of standard input.
 fn next() -> usize
     ensures { result < 4294967296 }
 {
     let mut b = [0u8; 4];
     io::read_full(0, &mut b);
-    ((wide(b[0]) * 256 + wide(b[1])) * 256 + wide(b[2])) * 256 + wide(b[3])
+    u32::from_be_bytes(b) as usize
 }
 
 // A length of at most that.
@@ -32,92 +25,64 @@ fn bounded(most: usize) -> usize
     ensures { result ≤ most }
 {
     let n = next();
-    if most < n {
-        return 0;
-    }
-    n
-}
-
-fn low(x: usize) -> u8 {
-    (x % 256) as u8
+    if most < n { 0 } else { n }
 }
 
 fn show(x: usize) {
-    let mut b = [0u8; 8];
-    b[0] = low(x / 0x0100_0000_0000_0000);
-    b[1] = low(x / 0x0001_0000_0000_0000);
-    b[2] = low(x / 0x0000_0100_0000_0000);
-    b[3] = low(x / 0x0000_0001_0000_0000);
-    b[4] = low(x / 0x0000_0000_0100_0000);
-    b[5] = low(x / 0x0000_0000_0001_0000);
-    b[6] = low(x / 0x0000_0000_0000_0100);
-    b[7] = low(x);
-    io::write_all(1, &b);
+    io::write_all(1, &x.to_be_bytes());
 }
 
-fn words(out: &mut [u64], n: usize)
-    requires { n ≤ length out.old }
-{
-    let mut i = 0;
-    while i < n {
-        let a = next();
-        let b = next();
-        out[i] = (a * 4294967296 + b) as u64;
-        i += 1;
+// The next numbers of eight bytes, as many as out has.
+fn words(out: &mut [u64]) {
+    for w in out.iter_mut() {
+        let mut b = [0u8; 8];
+        io::read_full(0, &mut b);
+        *w = u64::from_be_bytes(b);
     }
-}
-
-// The next n bytes of standard input, to the front of a.
-fn fill(a: &mut [u8], n: usize)
-    requires { n ≤ length a.old }
-{
-    io::read_full(0, &mut a[..n]);
 }
 
 fn shown(t: &[u8]) {
     let r = block_read::lookup::read(t);
-    show(r.answer.answer);
-    show(r.rows);
-    show(r.columns);
-    show(r.values_at);
-    show(r.values);
-    show(r.matrix_at);
-    show(r.matrix);
-    show(r.inverse_at);
-    show(r.inverse);
-}
-
-fn shown_front(a: &[u8], n: usize)
-    requires { n ≤ length a.now }
-{
-    shown(&a[..n]);
+    let numbers = [
+        r.answer.answer,
+        r.rows,
+        r.columns,
+        r.values_at,
+        r.values,
+        r.matrix_at,
+        r.matrix,
+        r.inverse_at,
+        r.inverse,
+    ];
+    for x in numbers {
+        show(x);
+    }
 }
 
 fn reads() {
     let n = bounded(8192);
     let mut a = [0u8; 8192];
-    fill(&mut a, n);
-    shown_front(&a, n);
+    io::read_full(0, &mut a[..n]);
+    shown(&a[..n]);
 }
 
 fn found<'a>(own: &'a [u8], main: &'a [u8], kind: usize) {
     let f = block_read::lookup::locate(own, main, kind);
-    show(f.block);
-    show(f.start);
-    show(f.count);
-    show(f.rows);
-    show(f.columns);
-    show(f.own_answer);
-    show(f.main_answer);
+    let numbers = [
+        f.block,
+        f.start,
+        f.count,
+        f.rows,
+        f.columns,
+        f.own_answer,
+        f.main_answer,
+    ];
+    for x in numbers {
+        show(x);
+    }
     let r = block_read::lookup::find(own, main, kind);
     show(r.len());
     io::write_all(1, r);
-}
-
-fn found_front<'a>(a: &'a [u8], n: usize, b: &'a [u8], m: usize, kind: usize)
-    requires { (n ≤ length a.now) × (m ≤ length b.now) }
-{
-    found(&a[..n], &b[..m], kind);
 }
 
 fn finds() {
@@ -126,35 +91,17 @@ fn finds() {
     let m = bounded(8192);
     let mut a = [0u8; 8192];
     let mut b = [0u8; 8192];
-    fill(&mut a, n);
-    fill(&mut b, m);
-    found_front(&a, n, &b, m, kind);
+    io::read_full(0, &mut a[..n]);
+    io::read_full(0, &mut b[..m]);
+    found(&a[..n], &b[..m], kind);
 }
 
-fn written_front(a: &[u8], n: usize)
-    requires { n ≤ length a.now }
-{
-    io::write_all(1, &a[..n]);
-}
-
-// What a part is given by.
-#[derive(Clone, Copy)]
-struct Given {
-    kind: usize,
-    n: usize,
-}
-
-fn part(words_of: &mut [u64]) -> Given
-    ensures { result.n ≤ length words_of.new }
-{
-    let k = next();
-    let n = bounded(words_of.len());
-    words(words_of, n);
-    Given { kind: k, n: n }
-}
-
-fn told(r: Answer) {
-    show(r.answer);
+// A part: its kind and its numbers, which are read to the front of room.
+fn part<'a>(room: &'a mut [u64]) -> (usize, &'a [u64]) {
+    let kind = next();
+    let n = bounded(room.len());
+    words(&mut room[..n]);
+    (kind, &room[..n])
 }
 
 // The sizes, three parts and a destination.
@@ -162,26 +109,13 @@ fn written(p1: &mut [u64], p2: &mut [u64], p3: &mut [u64], out: &mut [u8]) {
     let rows = next();
     let columns = next();
     let count = next();
-    let a = part(p1);
-    let b = part(p2);
-    let c = part(p3);
-    let x = a.n;
-    let y = b.n;
-    let z = c.n;
+    let (k1, p1) = part(p1);
+    let (k2, p2) = part(p2);
+    let (k3, p3) = part(p3);
     let n = bounded(out.len());
-    told(block_write::write(
-        rows,
-        columns,
-        count,
-        a.kind,
-        &p1[..x],
-        b.kind,
-        &p2[..y],
-        c.kind,
-        &p3[..z],
-        &mut out[..n],
-    ));
-    written_front(out, n);
+    let out = &mut out[..n];
+    show(block_write::write(rows, columns, count, k1, p1, k2, p2, k3, p3, out).answer);
+    io::write_all(1, out);
 }
 
 fn writes() {
@@ -203,25 +137,16 @@ fn lengths() {
 }
 
 fn case() {
-    let t = next();
-    if t == 1 {
-        reads();
-        return;
+    match next() {
+        1 => reads(),
+        2 => finds(),
+        3 => lengths(),
+        _ => writes(),
     }
-    if t == 2 {
-        finds();
-        return;
-    }
-    if t == 3 {
-        lengths();
-        return;
-    }
-    writes();
 }
 
 fn main() {
-    let n = next();
-    for i in 0..n {
+    for _ in 0..next() {
         case();
     }
 }

@@ -5,6 +5,58 @@ use std::fs::OpenOptions;
 use std::os::fd::AsRawFd;
 use std::rt::Files;
 
+// The files, by what becomes of them.
+const FILES: [&str; 40] = [
+    // Done.
+    "example",
+    "n_0",
+    "minus_zero",
+    "nan_above",
+    "infinity_above",
+    "three_bands",
+    "equal_values",
+    "subnormal",
+    "n_32",
+    // Refused before the run.
+    "refused_2_limit_0",
+    "refused_2_limit_61",
+    "refused_2_limit_999",
+    "refused_7_nan",
+    "refused_7_infinity",
+    // Refused by the run.
+    "refused_8_mark_0",
+    "refused_8_mark_1",
+    "refused_8_mark_2",
+    "refused_10_mark_0",
+    "refused_10_mark_1",
+    "refused_10_mark_1_in_e",
+    "refused_9",
+    // No text: a bad first line.
+    "bad_empty",
+    "bad_leading_zero",
+    "bad_limit_leading_zero",
+    "bad_limit_1000",
+    "bad_no_limit",
+    // Bad words.
+    "bad_two_spaces",
+    "bad_n_33",
+    "bad_upper_case",
+    "bad_digit",
+    "bad_short_word",
+    // Bad lines.
+    "bad_space_for_line_feed",
+    "bad_line_feed_for_space",
+    "bad_carriage_return",
+    "bad_empty_line",
+    "bad_missing_line",
+    // A bad end.
+    "bad_missing_last_line_feed",
+    "bad_line_behind",
+    "bad_byte_behind",
+    "bad_n_0_line_behind",
+];
+
+// As in `eigtext`: a program can't call another, and a library's function that writes would have nothing to promise.
 fn answer(t: &[u8]) {
     let mut output = io::large_buffer();
     let length = text_reply::reply(t, &mut output);
@@ -26,75 +78,9 @@ fn file(rt: &HostRuntime, name: &str) -> std::io::Result<()> {
     Ok(())
 }
 
-fn done(rt: &HostRuntime) -> std::io::Result<()> {
-    file(rt, "example")?;
-    file(rt, "n_0")?;
-    file(rt, "minus_zero")?;
-    file(rt, "nan_above")?;
-    file(rt, "infinity_above")?;
-    file(rt, "three_bands")?;
-    file(rt, "equal_values")?;
-    file(rt, "subnormal")?;
-    file(rt, "n_32")
-}
-
-// Before the run.
-fn refused_early(rt: &HostRuntime) -> std::io::Result<()> {
-    file(rt, "refused_2_limit_0")?;
-    file(rt, "refused_2_limit_61")?;
-    file(rt, "refused_2_limit_999")?;
-    file(rt, "refused_7_nan")?;
-    file(rt, "refused_7_infinity")
-}
-
-// Of the run.
-fn refused_late(rt: &HostRuntime) -> std::io::Result<()> {
-    file(rt, "refused_8_mark_0")?;
-    file(rt, "refused_8_mark_1")?;
-    file(rt, "refused_8_mark_2")?;
-    file(rt, "refused_10_mark_0")?;
-    file(rt, "refused_10_mark_1")?;
-    file(rt, "refused_10_mark_1_in_e")?;
-    file(rt, "refused_9")
-}
-
-fn bad_head(rt: &HostRuntime) -> std::io::Result<()> {
-    file(rt, "bad_empty")?;
-    file(rt, "bad_leading_zero")?;
-    file(rt, "bad_limit_leading_zero")?;
-    file(rt, "bad_limit_1000")?;
-    file(rt, "bad_no_limit")
-}
-
-fn bad_words(rt: &HostRuntime) -> std::io::Result<()> {
-    file(rt, "bad_two_spaces")?;
-    file(rt, "bad_n_33")?;
-    file(rt, "bad_upper_case")?;
-    file(rt, "bad_digit")?;
-    file(rt, "bad_short_word")
-}
-
-fn bad_lines(rt: &HostRuntime) -> std::io::Result<()> {
-    file(rt, "bad_space_for_line_feed")?;
-    file(rt, "bad_line_feed_for_space")?;
-    file(rt, "bad_carriage_return")?;
-    file(rt, "bad_empty_line")?;
-    file(rt, "bad_missing_line")
-}
-
-fn bad_end(rt: &HostRuntime) -> std::io::Result<()> {
-    file(rt, "bad_missing_last_line_feed")?;
-    file(rt, "bad_line_behind")?;
-    file(rt, "bad_byte_behind")?;
-    file(rt, "bad_n_0_line_behind")
-}
-
 fn main(rt: HostRuntime) -> std::io::Result<()> {
-    done(&rt)?;
-    refused_early(&rt)?;
-    refused_late(&rt)?;
-    bad_head(&rt)?;
-    bad_words(&rt)?;
-    bad_lines(&rt)?;
-    bad_end(&rt)
+    for name in FILES {
+        file(&rt, name)?;
+    }
+    Ok(())
 }

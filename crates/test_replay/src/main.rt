@@ -4,25 +4,23 @@
 
 ghost use Rattle.std.specs.Prelude.{◌<◌};
 
+use eigen_tql2_pass::GOING;
 use test_replay_cases::Case;
 
 // ---- a case of symmetric_eigen in steps
 
 fn unfinished(q: eigen_steps::EigenRun) -> bool {
-    let r = q.run;
-    if r.stop != 0 {
-        return false;
-    }
-    r.l < q.n
+    q.run.stop == GOING && q.run.l < q.n
 }
 
 // Steps until none is left; 60 * 256 always do.
 fn stepped(q0: eigen_steps::EigenRun, work: &mut [f64], res: &mut [f64]) -> eigen_steps::EigenRun {
     let mut q = q0;
-    let mut left = 15360u64;
-    while left > 0 && unfinished(q) {
+    for _ in 0..15360 {
+        if !unfinished(q) {
+            return q;
+        }
         q = q.step(work, res);
-        left -= 1;
     }
     q
 }
@@ -71,7 +69,7 @@ fn fitted_in_steps(c: Case, a: &[f64], work: &mut [f64], res: &mut [f64]) -> boo
 
 // ---- all of them
 
-// What came of a case: the function that it calls, 0 behind the last case, whether it agrees, and whether it does so in steps.
+// What came of a case: the function that it calls, whether it agrees, and whether it does so in steps.
 #[derive(Clone, Copy)]
 struct Outcome {
     function: u64,
@@ -80,30 +78,23 @@ struct Outcome {
 }
 
 fn again(c: Case, a: &[f64], work: &mut [f64], res: &mut [f64]) -> bool {
-    if c.asked.function != 1 {
-        return false;
-    }
-    fitted_in_steps(c, a, work, res)
+    c.asked.function == 1 && fitted_in_steps(c, a, work, res)
 }
 
-// One case of the list, if there is one.
-fn turn(a: &mut [f64], b: &mut [f64], work: &mut [f64], res: &mut [f64]) -> Outcome {
+// One case of the list, if there is one: function 0 stands behind the last.
+fn turn(a: &mut [f64], b: &mut [f64], work: &mut [f64], res: &mut [f64]) -> Option<Outcome> {
     let c = test_replay_cases::read_case();
     let function = c.asked.function;
     if function == 0 {
-        return Outcome {
-            function,
-            good: false,
-            again: false,
-        };
+        return None;
     }
     let good = test_replay_cases::run_case::fitted(c, a, b, work, res);
     let again = again(c, a, work, res);
-    Outcome {
+    Some(Outcome {
         function,
         good,
         again,
-    }
+    })
 }
 
 // Of the functions 1 to 7, 7 being symmetric_eigen in steps: counts[f] is how many cases there were of f, counts[8 + f] how many agreed.
@@ -128,16 +119,13 @@ fn count(counts: &mut [u64], o: Outcome) {
     }
 }
 
-// The list ends, but nothing says so: the loop counts its turns down, from a number that no list uses up.
+// The list ends, but nothing says so: the bound is none that a list has.
 fn replay(a: &mut [f64], b: &mut [f64], work: &mut [f64], res: &mut [f64], counts: &mut [u64]) {
-    let mut turns = u64::MAX;
-    while turns > 0 {
-        let o = turn(a, b, work, res);
-        if o.function == 0 {
+    for _ in 0..u64::MAX {
+        let Some(o) = turn(a, b, work, res) else {
             return;
-        }
+        };
         count(counts, o);
-        turns -= 1;
     }
 }
 

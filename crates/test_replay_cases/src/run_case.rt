@@ -1,46 +1,28 @@
 // One case of the oracle's list: its call on arrays of its lengths, and whether what came back is what the list says.
 use crate::{Asked, Case, Wanted};
 use answers::Answer;
-
-// The calls that are lent no work.
-fn call_alone(c: Asked, a: &[f64], b: &[f64], res: &mut [f64]) -> Answer {
-    let m = c.first as usize;
-    let n = c.second as usize;
-    let u = c.third as usize;
-    let vt = c.fourth as usize;
-    if c.function == 3 {
-        return solve::solve(m, n, u, vt, crate::number(c.fifth), a, b, res);
-    }
-    if c.function == 4 {
-        return solve::pseudo_inverse(m, n, u, vt, crate::number(c.fifth), a, res);
-    }
-    qr_q::qr_q(m, n, a, res)
-}
+use octets::float;
 
 fn call(c: Asked, a: &[f64], b: &[f64], work: &mut [f64], res: &mut [f64]) -> Answer {
     let m = c.first as usize;
     let n = c.second as usize;
     let u = c.third as usize;
-    if c.function == 1 {
-        return eigen_symmetric_eigen::symmetric_eigen(m, n, u, a, work, res);
+    let v = c.fourth as usize;
+    match c.function {
+        1 => eigen_symmetric_eigen::symmetric_eigen(m, n, u, a, work, res),
+        2 => svd::svd(m, n, u, v, c.fifth as usize, a, work, res),
+        3 => solve::solve(m, n, u, v, float(c.fifth), a, b, res),
+        4 => solve::pseudo_inverse(m, n, u, v, float(c.fifth), a, res),
+        _ => qr_q::qr_q(m, n, a, res),
     }
-    if c.function == 2 {
-        return svd::svd(m, n, u, c.fourth as usize, c.fifth as usize, a, work, res);
-    }
-    call_alone(c, a, b, res)
 }
 
+// Field by field: the list's numbers are of 64 bits wherever it is read, and it has a hash besides.
 pub fn numbers_agree(got: Answer, wanted: Wanted) -> bool {
-    if got.answer as u64 != wanted.answer {
-        return false;
-    }
-    if got.place as u64 != wanted.place {
-        return false;
-    }
-    if got.index as u64 != wanted.index {
-        return false;
-    }
-    got.count as u64 == wanted.count
+    (got.answer as u64 == wanted.answer)
+        & (got.place as u64 == wanted.place)
+        & (got.index as u64 == wanted.index)
+        & (got.count as u64 == wanted.count)
 }
 
 fn call_agrees(
@@ -52,11 +34,7 @@ fn call_agrees(
     res: &mut [f64],
 ) -> bool {
     let got = call(c, a, b, work, res);
-    let good = crate::arrays_agree(wanted, work, res);
-    if numbers_agree(got, wanted) {
-        return good;
-    }
-    false
+    crate::arrays_agree(wanted, work, res) & numbers_agree(got, wanted)
 }
 
 fn row_agrees(c: Asked, wanted: Wanted, a: &[f64]) -> bool {
@@ -68,11 +46,7 @@ fn row_agrees(c: Asked, wanted: Wanted, a: &[f64]) -> bool {
         c.fifth as usize,
         a,
     );
-    let good = crate::row_agrees(wanted, row);
-    if row.len() as u64 == wanted.answer {
-        return good;
-    }
-    false
+    crate::row_agrees(wanted, row) & (row.len() as u64 == wanted.answer)
 }
 
 fn agrees(c: Case, a: &[f64], b: &[f64], work: &mut [f64], res: &mut [f64]) -> bool {

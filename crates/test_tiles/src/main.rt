@@ -4,13 +4,37 @@
 use std::fs::OpenOptions;
 use std::os::fd::AsRawFd;
 use std::rt::Files;
-use text_tiles_definition::Series;
+use text_tiles_definition::{ENDED, Series};
 
-// As in `tiles`.
+// The files: whole series, tiles that are refused, and lines that are none.
+const FILES: [&str; 20] = [
+    "empty",
+    "one",
+    "all_answers",
+    "most_is_first",
+    "pieces",
+    "answer_16",
+    "passes_15361",
+    "number_2_to_64",
+    "leading_zero",
+    "passes_leading_zero",
+    "two_spaces",
+    "space_before",
+    "space_behind",
+    "carriage_return",
+    "no_passes",
+    "three_numbers",
+    "empty_line",
+    "sign",
+    "no_last_line_feed",
+    "zero_byte",
+];
+
+// As in `tiles`: a program can't call another, and a library's function that reads would have nothing to promise.
 fn series(input: i32) -> Series {
     let mut s = text_tiles::read::begun();
-    for k in 0..18446744073709551615usize {
-        if s.stage > 1 {
+    for _ in 0..usize::MAX {
+        if s.stage >= ENDED {
             return s;
         }
         let mut piece = io::buffer();
@@ -36,37 +60,9 @@ fn file(rt: &HostRuntime, name: &str) -> std::io::Result<()> {
     Ok(())
 }
 
-fn whole(rt: &HostRuntime) -> std::io::Result<()> {
-    file(rt, "empty")?;
-    file(rt, "one")?;
-    file(rt, "all_answers")?;
-    file(rt, "most_is_first")?;
-    file(rt, "pieces")
-}
-
-fn refused(rt: &HostRuntime) -> std::io::Result<()> {
-    file(rt, "answer_16")?;
-    file(rt, "passes_15361")?;
-    file(rt, "number_2_to_64")
-}
-
-fn other(rt: &HostRuntime) -> std::io::Result<()> {
-    file(rt, "leading_zero")?;
-    file(rt, "passes_leading_zero")?;
-    file(rt, "two_spaces")?;
-    file(rt, "space_before")?;
-    file(rt, "space_behind")?;
-    file(rt, "carriage_return")?;
-    file(rt, "no_passes")?;
-    file(rt, "three_numbers")?;
-    file(rt, "empty_line")?;
-    file(rt, "sign")?;
-    file(rt, "no_last_line_feed")?;
-    file(rt, "zero_byte")
-}
-
 fn main(rt: HostRuntime) -> std::io::Result<()> {
-    whole(&rt)?;
-    refused(&rt)?;
-    other(&rt)
+    for name in FILES {
+        file(&rt, name)?;
+    }
+    Ok(())
 }

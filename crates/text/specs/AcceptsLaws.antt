@@ -1,5 +1,5 @@
 -- T8: a text is read as n, limit and words exactly where it is their writing (`exactly`: `accepts` and `accepted`), and it is the writing of one n, limit and list of words at the most (`one_writing`). Laws only.
-use Rattle.std.specs.Prelude.{◌≡◌, Bool, true, false, cond, ◌&&◌, ◌↔◌, ltb, eqb, length, get_or, take, drop}
+use Rattle.std.specs.Prelude.{◌≡◌, Option, Some, None, Bool, true, false, cond, ◌&&◌, ◌↔◌, ltb, eqb, length, get_or, take, drop}
 use Rattle.std.proofs.Math.Path.{refl}
 use Rattle.std.proofs.Common.{sym, ap, ◌∙◌, not-suc-le-zero, mul-le-mul, add-one, arith, ltb-true, ltb-false, lt-ltb, le-ltb, eqb-true, eq-eqb, length-drop, drop_at, take-add, take_all, drop-drop, ext_get_or}
 use Rattle.std.proofs.Math.Logic.{⊎_elim}
@@ -12,12 +12,10 @@ use Rattle.grid.specs.LoopLaws.{below_cases, both, every_at, every_all}
 use Rattle.octets.specs.Bytes.{byte}
 use Rattle.octets.proofs.BytesLaws.{parts, one_of, take_more, part_length}
 use Rattle.text.specs.Writing.{digits, number, joined, separator, group, lines, word_of, writing}
-use Rattle.text.specs.Reading.{good, bad, value_at, number_at, limit_in, head_of, head, digit_at, group_at, word_at, table, words_read, reading_of, reading}
+use Rattle.text.specs.Reading.{good, bad, ended, line, value_at, number_at, limit_in, head_of, head, digit_at, group_at, word_at, table, words_read, reading_of, reading}
 use Rattle.text.specs.Accepts.{Words, Written}
 use Rattle.text.specs.declared.Number.{Number}
-use Rattle.text.specs.declared.Number.TheVariants.{Ended, NoNumber}
 use Rattle.text.specs.declared.Head.{Head}
-use Rattle.text.specs.declared.Head.TheVariants.{Line, NoLine}
 use Rattle.text.specs.Laws.{digits_length, horner_bound, spelled, taken}
 use Rattle.text.specs.Numbers.{Known, number_known, number_read, number_short, number_long}
 
@@ -145,10 +143,10 @@ accepts n limit ws hn hl hw b =
     start : ℕ
     start = 0 + length N + length L
 
-    first : number_at t 0 32 ≡ Ended n (0 + length N)
+    first : number_at t 0 32 ≡ ended n (0 + length N)
     first = number_read t 0 32 n (L ++ B) (omega arith) (omega arith) (append_assoc N L B)
 
-    second : number_at t (0 + length N) 10 ≡ Ended limit start
+    second : number_at t (0 + length N) 10 ≡ ended limit start
     second = number_read t (0 + length N) 10 limit B hl (omega arith)
         (ap (λ (l : List ℕ). drop (0 + length N) l) (append_assoc N L B) ∙ drop_at N (L ++ B) (0 + length N) (omega arith))
 
@@ -175,10 +173,22 @@ pub record FirstLine (t : List ℕ) (n limit start : ℕ) : Type 0 where
   pub near : start ≤ 8
   pub text : t ≡ number n 32 ++ number limit 10 ++ drop start t
 
-no_line : {n limit start : ℕ} → NoLine ≡ Line n limit start → ⊥
+no_line : {n limit start : ℕ} → ◌≡◌ {A = Option Head} None (line n limit start) → ⊥
 no_line e =
     let z : ◌≡◌ {A = ℕ} 0 1 = cc in
     omega arith
+
+size_in : Option Head → ℕ
+size_in (Some h) = h.n
+size_in None = 0
+
+limit_in_line : Option Head → ℕ
+limit_in_line (Some h) = h.limit
+limit_in_line None = 0
+
+next_in : Option Head → ℕ
+next_in (Some h) = h.next
+next_in None = 0
 
 first_line_lem : (t : List ℕ) (n limit start i : ℕ) → n ≤ 32 → Known t 0 32 n i → Known t i 10 limit start → FirstLine t n limit start
 first_line_lem t n limit start i h a b =
@@ -189,26 +199,26 @@ first_line_lem t n limit start i h a b =
       text = a.text ∙ ap (λ (l : List ℕ). number n 32 ++ l) b.text ∙ sym (append_assoc (number n 32) (number limit 10) (drop start t));
     }
 
-pub head_known : (t : List ℕ) (n limit start : ℕ) → head t ≡ Line n limit start → FirstLine t n limit start
-unfolding head
+pub head_known : (t : List ℕ) (n limit start : ℕ) → head t ≡ line n limit start → FirstLine t n limit start
+unfolding head size_in limit_in_line next_in
 head_known t n limit start = go (number_at t 0 32) refl
   where
-    line : (i m l s : ℕ) → number_at t 0 32 ≡ Ended m i → number_at t i 10 ≡ Ended l s → m ≤ 32 → ◌≡◌ {A = Head} (Line m l s) (Line n limit start) → FirstLine t n limit start
-    line i m l s a b h e =
-        let p : m ≡ n = cc in
-        let q : l ≡ limit = cc in
-        let r : s ≡ start = cc in
+    known : (i m l s : ℕ) → number_at t 0 32 ≡ ended m i → number_at t i 10 ≡ ended l s → m ≤ 32 → line m l s ≡ line n limit start → FirstLine t n limit start
+    known i m l s a b h e =
+        let p : m ≡ n = ap size_in e in
+        let q : l ≡ limit = ap limit_in_line e in
+        let r : s ≡ start = ap next_in e in
         first_line_lem t n limit start i (rw p at h) (number_known t 0 32 n i (omega arith) (rw p at a)) (number_known t i 10 limit start (omega arith) (rw (q, r) at b))
 
-    third : (i m : ℕ) (y : Number) (big : Bool) → number_at t 0 32 ≡ Ended m i → number_at t i 10 ≡ y → ltb 32 m ≡ big
-        → cond big NoLine (limit_in m y) ≡ Line n limit start → FirstLine t n limit start
+    third : (i m : ℕ) (y : Option Number) (big : Bool) → number_at t 0 32 ≡ ended m i → number_at t i 10 ≡ y → ltb 32 m ≡ big
+        → cond big None (limit_in m y) ≡ line n limit start → FirstLine t n limit start
     third i m y true a b c e = absurd (no_line e)
-    third i m (Ended l s) false a b c e = line i m l s a b (ltb-false 32 m c) e
-    third i m NoNumber false a b c e = absurd (no_line e)
+    third i m (Some y) false a b c e = known i m y.value y.next a b (ltb-false 32 m c) e
+    third i m None false a b c e = absurd (no_line e)
 
-    go : (x : Number) → number_at t 0 32 ≡ x → head_of t x ≡ Line n limit start → FirstLine t n limit start
-    go (Ended m i) a e = third i m (number_at t i 10) (ltb 32 m) a refl refl e
-    go NoNumber a e = absurd (no_line e)
+    go : (x : Option Number) → number_at t 0 32 ≡ x → head_of t x ≡ line n limit start → FirstLine t n limit start
+    go (Some x) a e = third x.next x.value (number_at t x.next 10) (ltb 32 x.value) a refl refl e
+    go None a e = absurd (no_line e)
 
 pub writing_length : (n limit : ℕ) (ws : List ℕ) → n ≤ 32 → limit < 1000 → length (writing n limit ws) ≤ 17415
 unfolding writing
@@ -260,20 +270,20 @@ pub accepted : (t : List ℕ) (n limit : ℕ) (ws : List ℕ) → reading t ≡ 
 unfolding reading words_read
 accepted t n limit ws = go (head t) refl
   where
-    line : (m l s : ℕ) → head t ≡ Line m l s → (b : Bool) → (eqb (length t) (s + 17 * (m * m)) && every (group_at t m s) (m * m)) ≡ b
+    known : (m l s : ℕ) → head t ≡ line m l s → (b : Bool) → (eqb (length t) (s + 17 * (m * m)) && every (group_at t m s) (m * m)) ≡ b
         → cond b (good m l (table (words_at t s) (m * m))) bad ≡ good n limit ws → Written t n limit ws
-    line m l s h true a e =
+    known m l s h true a e =
         let w = both (eqb (length t) (s + 17 * (m * m))) (every (group_at t m s) (m * m)) a in
         let r = words_written t m l s (head_known t m l s h) (eqb-true (length t) (s + 17 * (m * m)) w.0) w.1 in
         let p : m ≡ n = cc in
         let q : l ≡ limit = cc in
         let x : table (words_at t s) (m * m) ≡ ws = cc in
         rw (x, p, q) at r
-    line m l s h false a e = absurd (not_good e)
+    known m l s h false a e = absurd (not_good e)
 
-    go : (h : Head) → head t ≡ h → reading_of t h ≡ good n limit ws → Written t n limit ws
-    go (Line m l s) a e = line m l s a (eqb (length t) (s + 17 * (m * m)) && every (group_at t m s) (m * m)) refl e
-    go NoLine a e = absurd (not_good e)
+    go : (h : Option Head) → head t ≡ h → reading_of t h ≡ good n limit ws → Written t n limit ws
+    go (Some h) a e = known h.n h.limit h.next a (eqb (length t) (h.next + 17 * (h.n * h.n)) && every (group_at t h.n h.next) (h.n * h.n)) refl e
+    go None a e = absurd (not_good e)
 
 pub written_read : (t : List ℕ) (n limit : ℕ) (ws : List ℕ) → Written t n limit ws → reading t ≡ good n limit ws
 written_read t n limit ws w = ap reading w.text ∙ accepts n limit ws w.size w.below w.count w.words

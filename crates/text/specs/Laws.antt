@@ -1,5 +1,6 @@
 -- Digits and their values, words. Laws only.
-use Rattle.std.specs.Prelude.{◌≡◌, refl, Bool, true, false, cond, ◌⊎◌, List, [], ◌∷◌, ◌++◌, ℕ, zero, suc, ◌+◌, ◌-◌, ◌*◌, ◌/◌, ◌%◌, ◌^◌, ◌≤◌, ◌<◌, ltb, length, take, drop}
+use Rattle.std.specs.Prelude.{◌≡◌, refl, Option, Some, None, Bool, true, false, cond, ◌⊎◌, List, [], ◌∷◌, ◌++◌, ℕ, zero, suc, ◌+◌, ◌-◌, ◌*◌, ◌/◌, ◌%◌, ◌^◌, ◌≤◌, ◌<◌, ltb, length, take, drop}
+use Rattle.std.specs.Option.{is_some}
 use Rattle.std.proofs.Common.{sym, ap, ◌∙◌, inl, inr, ⊎_elim, not-suc-le-zero, pow-suc, add-one, arith, ltb-true, ltb-false, lt-ltb, le-ltb, length-append}
 use Rattle.std.proofs.Math.Nat.{pow-le-pow_right}
 use Rattle.text.specs.Writing.{glyph, digits}
@@ -26,6 +27,29 @@ value_high b h g =
     let p : 48 ≤ b = omega arith in
     let q : 58 ≤ b = omega arith in
     rw (le-ltb b 48 p, le-ltb b 58 q, le-ltb b 97 h, lt-ltb b 103 g)
+
+-- what a test and a value come from
+module _ {A : Type 0} where
+  some_in : A → Option A → A
+  some_in x (Some y) = y
+  some_in x None = x
+
+  pub some_is : (b : Bool) (x y : A) → cond b (Some x) None ≡ Some y → (b ≡ true) × (y ≡ x)
+  unfolding some_in
+  some_is true x y e = (refl, sym (ap (some_in x) e))
+  some_is false x y e =
+      let z : ◌≡◌ {A = ℕ} 0 1 = cc in
+      absurd (omega arith)
+
+  pub none_is : (b : Bool) (x : A) → cond b (Some x) None ≡ None → b ≡ false
+  none_is true x e =
+      let z : ◌≡◌ {A = ℕ} 0 1 = cc in
+      absurd (omega arith)
+  none_is false x e = refl
+
+  pub is_some_of : (b : Bool) (x : A) → is_some (cond b (Some x) None) ≡ b
+  is_some_of true x = refl
+  is_some_of false x = refl
 
 -- which bytes are digits
 pub digit_cases : (b : ℕ) → value b < 16 → ((48 ≤ b) × (b < 58)) ⊎ ((97 ≤ b) × (b < 103))
@@ -86,6 +110,15 @@ horner_fits t at i e h =
     horner_bound (value_at t at) (i + 1) (λ j l. ltb-true (value_at t at j) 16 (every_at (digit_at t at) 16 j e (omega arith))) in
     let b : 16 ^ (i + 1) ≤ 16 ^ 16 = pow-le-pow_right (omega arith) {i = i + 1} {j = 16} (omega arith) in
     rw (horner_more (value_at t at) i) (omega arith)
+
+-- the same where only the digits so far and this one are known
+pub horner_room : (t : List ℕ) (at i : ℕ) → every (digit_at t at) i ≡ true → value_at t at i < 16 → i < 16 → horner (value_at t at) i * 16 + value_at t at i < 2 ^ 64
+horner_room t at i e d h =
+    let a : horner (value_at t at) i < 16 ^ i =
+    horner_bound (value_at t at) i (λ j l. ltb-true (value_at t at j) 16 (every_at (digit_at t at) i j e l)) in
+    let b : 16 ^ suc i ≤ 16 ^ 16 = pow-le-pow_right (omega arith) {i = suc i} {j = 16} (omega arith) in
+    let c : 16 ^ suc i ≡ 16 ^ i * 16 = pow-suc 16 i in
+    omega arith
 
 -- digits that stand in a text from `at` on are the digits of their number
 pub spelled : (t : List ℕ) (at k : ℕ) → at + k ≤ length t → ((i : ℕ) → i < k → value_at t at i < 16)

@@ -1,13 +1,12 @@
 -- A decimal number of at most three digits is read where it is written, and only there. Laws only.
-use Rattle.std.specs.Prelude.{◌≡◌, refl, Bool, true, false, cond, List, [], ◌∷◌, ◌++◌, ℕ, zero, suc, ◌+◌, ◌*◌, ◌/◌, ◌%◌, ◌≤◌, ◌<◌, ltb, leb, eqb, length, drop}
+use Rattle.std.specs.Prelude.{◌≡◌, refl, Option, Some, None, Bool, true, false, cond, List, [], ◌∷◌, ◌++◌, ℕ, zero, suc, ◌+◌, ◌*◌, ◌/◌, ◌%◌, ◌≤◌, ◌<◌, ltb, leb, eqb, length, drop}
 use Rattle.std.proofs.Common.{sym, ap, ◌∙◌, ⊎_elim, add-one, arith, ltb-true, ltb-false, leb-false, eqb-true, eq-eqb, ne_eqb, drop-cons, get_or-drop}
 use Rattle.std.proofs.lemmas.Bool.{lt-leb, eqb-false}
 use Rattle.std.proofs.Math.ListN.{get_or-eq_default}
 use Rattle.text.specs.Writing.{digits, places_from, places, number}
-use Rattle.text.specs.Reading.{value, number_of, number_at}
+use Rattle.text.specs.Reading.{value, ended, number_of, number_at}
 use Rattle.octets.specs.Bytes.{byte}
 use Rattle.text.specs.declared.Number.{Number}
-use Rattle.text.specs.declared.Number.TheVariants.{Ended, NoNumber}
 use Rattle.text.specs.Laws.{digit_cases, value_low, value_high, glyph_low}
 
 -- ---- how they are written
@@ -91,30 +90,40 @@ data Read (at end a b c d v next : ℕ) : Type 0 where
   three : 0 < value a → value a < 10 → value b < 10 → value c < 10 → d ≡ end → v ≡ value a * 100 + value b * 10 + value c → next ≡ at + 4
       → Read at end a b c d v next
 
-ended_value : {v next v' next' : ℕ} → ◌≡◌ {A = Number} (Ended v next) (Ended v' next') → v' ≡ v
-ended_value e = cc
+value_in : Option Number → ℕ
+value_in (Some x) = x.value
+value_in None = 0
 
-ended_next : {v next v' next' : ℕ} → ◌≡◌ {A = Number} (Ended v next) (Ended v' next') → next' ≡ next
-ended_next e = cc
+next_in : Option Number → ℕ
+next_in (Some x) = x.next
+next_in None = 0
+
+ended_value : {v next v' next' : ℕ} → ended v next ≡ ended v' next' → v' ≡ v
+unfolding value_in
+ended_value e = sym (ap value_in e)
+
+ended_next : {v next v' next' : ℕ} → ended v next ≡ ended v' next' → next' ≡ next
+unfolding next_in
+ended_next e = sym (ap next_in e)
 
 positive : (x : ℕ) → (x ≡ 0 → ⊥) → 0 < x
 positive zero h = absurd (h refl)
 positive (suc x) h = omega arith
 
-no_number : {v next : ℕ} → NoNumber ≡ Ended v next → ⊥
+no_number : {v next : ℕ} → ◌≡◌ {A = Option Number} None (ended v next) → ⊥
 no_number e =
     let z : ◌≡◌ {A = ℕ} 0 1 = cc in
     omega arith
 
-ways : (at end a b c d v next : ℕ) → number_of at end a b c d ≡ Ended v next → Read at end a b c d v next
+ways : (at end a b c d v next : ℕ) → number_of at end a b c d ≡ ended v next → Read at end a b c d v next
 unfolding number_of
 ways at end a b c d v next =
     go (leb 10 (value a)) (eqb b end) (eqb (value a) 0) (leb 10 (value b)) (eqb c end) (leb 10 (value c)) (eqb d end) refl refl refl refl refl refl refl
   where
     go : (p q r s x y z : Bool) → leb 10 (value a) ≡ p → eqb b end ≡ q → eqb (value a) 0 ≡ r → leb 10 (value b) ≡ s → eqb c end ≡ x → leb 10 (value c) ≡ y
         → eqb d end ≡ z
-        → cond p NoNumber (cond q (Ended (value a) (at + 2)) (cond r NoNumber (cond s NoNumber (cond x (Ended (value a * 10 + value b) (at + 3))
-        (cond y NoNumber (cond z (Ended (value a * 100 + value b * 10 + value c) (at + 4)) NoNumber)))))) ≡ Ended v next
+        → cond p None (cond q (ended (value a) (at + 2)) (cond r None (cond s None (cond x (ended (value a * 10 + value b) (at + 3))
+        (cond y None (cond z (ended (value a * 100 + value b * 10 + value c) (at + 4)) None)))))) ≡ ended v next
         → Read at end a b c d v next
     go true q r s x y z ep eq er es ex ey ez h = absurd (no_number h)
     go false true r s x y z ep eq er es ex ey ez h = one (leb-false 10 (value a) ep) (eqb-true b end eq) (ended_value h) (ended_next h)
@@ -178,9 +187,12 @@ known t at end v next z (three o p q r e f g) =
     record { below = omega arith; near = omega arith; text = from_four t at l ∙ rw (w, ← a, ← b, ← c, ← e, g) }
 
 -- a number that was read stands there as it is written
-pub number_known : (t : List ℕ) (at end v next : ℕ) → 0 < end → number_at t at end ≡ Ended v next → Known t at end v next
+pub number_known : (t : List ℕ) (at end v next : ℕ) → 0 < end → number_at t at end ≡ ended v next → Known t at end v next
 unfolding number_at
 number_known t at end v next z e = known t at end v next z (ways at end (byte t at) (byte t (at + 1)) (byte t (at + 2)) (byte t (at + 3)) v next e)
+
+pub number_near : (t : List ℕ) (end v next : ℕ) → 0 < end → number_at t 0 end ≡ ended v next → next ≤ 4
+number_near t end v next z e = (number_known t 0 end v next z e).near
 
 -- ---- and what is written is read
 
@@ -190,11 +202,11 @@ byte_of t at i e = sym (get_or-drop at t i 0) ∙ ap (λ (l : List ℕ). byte l 
 first_byte : (t : List ℕ) (at : ℕ) {l : List ℕ} → drop at t ≡ l → byte t at ≡ byte l 0
 first_byte t at e = ap (λ (i : ℕ). byte t i) (omega arith) ∙ byte_of t at 0 e
 
-read_one : (at end b c d x : ℕ) → x < 10 → b ≡ end → number_of at end (48 + x) b c d ≡ Ended x (at + 2)
+read_one : (at end b c d x : ℕ) → x < 10 → b ≡ end → number_of at end (48 + x) b c d ≡ ended x (at + 2)
 unfolding number_of
 read_one at end b c d x p e = rw (value_digit x p, lt-leb 10 x p, eq-eqb b end e)
 
-read_two : (at end c d x y : ℕ) → 0 < x → x < 10 → y < 10 → end < 48 → c ≡ end → number_of at end (48 + x) (48 + y) c d ≡ Ended (x * 10 + y) (at + 3)
+read_two : (at end c d x y : ℕ) → 0 < x → x < 10 → y < 10 → end < 48 → c ≡ end → number_of at end (48 + x) (48 + y) c d ≡ ended (x * 10 + y) (at + 3)
 unfolding number_of
 read_two at end c d x y o p q l e =
     let f : 48 + y ≡ end → ⊥ = λ h. omega arith in
@@ -202,7 +214,7 @@ read_two at end c d x y o p q l e =
     rw (value_digit x p, value_digit y q, lt-leb 10 x p, ne_eqb (48 + y) end f, ne_eqb x 0 g, lt-leb 10 y q, eq-eqb c end e)
 
 read_three : (at end d x y z : ℕ) → 0 < x → x < 10 → y < 10 → z < 10 → end < 48 → d ≡ end
-    → number_of at end (48 + x) (48 + y) (48 + z) d ≡ Ended (x * 100 + y * 10 + z) (at + 4)
+    → number_of at end (48 + x) (48 + y) (48 + z) d ≡ ended (x * 100 + y * 10 + z) (at + 4)
 unfolding number_of
 read_three at end d x y z o p q r l e =
     let f : 48 + y ≡ end → ⊥ = λ h. omega arith in
@@ -222,12 +234,12 @@ read_three at end d x y z o p q r l e =
     )
 
 pub number_read : (t : List ℕ) (at end v : ℕ) (rest : List ℕ) → v < 1000 → end < 48 → drop at t ≡ number v end ++ rest
-    → number_at t at end ≡ Ended v (at + length (number v end))
+    → number_at t at end ≡ ended v (at + length (number v end))
 unfolding number_at
 number_read t at end v rest h l e = go (ltb v 10) (ltb v 100) refl refl
   where
     go : (p q : Bool) → ltb v 10 ≡ p → ltb v 100 ≡ q
-        → number_of at end (byte t at) (byte t (at + 1)) (byte t (at + 2)) (byte t (at + 3)) ≡ Ended v (at + length (number v end))
+        → number_of at end (byte t at) (byte t (at + 1)) (byte t (at + 2)) (byte t (at + 3)) ≡ ended v (at + length (number v end))
     go true q ep eq =
         let w : number v end ≡ (48 + v) ∷ end ∷ [] = number_one v end (ltb-true v 10 ep) in
         let f = rw w at e in
@@ -240,7 +252,7 @@ number_read t at end v rest h l e = go (ltb v 10) (ltb v 100) refl refl
         let k : v / 10 * 10 + v % 10 ≡ v = omega arith in
         rw (w, first_byte t at f, byte_of t at 1 f)
         (read_two at end (byte t (at + 2)) (byte t (at + 3)) (v / 10) (v % 10) (omega arith) (omega arith) (omega arith) l (byte_of t at 2 f)
-        ∙ ap (λ (x : ℕ). Ended x (at + 3)) k)
+        ∙ ap (λ (x : ℕ). ended x (at + 3)) k)
     go false false ep eq =
         let g : 100 ≤ v = ltb-false v 100 eq in
         let w : number v end ≡ (48 + v / 10 / 10) ∷ (48 + v / 10 % 10) ∷ (48 + v % 10) ∷ end ∷ [] = number_three v end g h in
@@ -248,4 +260,4 @@ number_read t at end v rest h l e = go (ltb v 10) (ltb v 100) refl refl
         let k : v / 10 / 10 * 100 + v / 10 % 10 * 10 + v % 10 ≡ v = omega arith in
         rw (w, first_byte t at f, byte_of t at 1 f, byte_of t at 2 f)
         (read_three at end (byte t (at + 3)) (v / 10 / 10) (v / 10 % 10) (v % 10) (omega arith) (omega arith) (omega arith) (omega arith) l (byte_of t at 3 f)
-        ∙ ap (λ (x : ℕ). Ended x (at + 4)) k)
+        ∙ ap (λ (x : ℕ). ended x (at + 4)) k)

@@ -1,8 +1,9 @@
 -- A text put to a buffer piece by piece is the whole put once, and the loops that the code does it by; no promise speaks of these. Laws only.
-use Rattle.std.specs.Prelude.{◌≡◌, refl, ◌≢◌, Bool, true, false, cond, List, [], ◌∷◌, ◌++◌, map, ℕ, zero, suc, ◌+◌, ◌-◌, ◌*◌, ◌/◌, ◌%◌, ◌≤◌, ◌<◌, ltb, leb, eqb, length, set, Float}
-use Rattle.std.proofs.Common.{sym, ap, ◌∙◌, true≢false, append-nil, not-suc-le-zero, zero-add, suc-add, add-suc, mul-le-mul, sub-one, arith, eq-eqb, ne_eqb, ltb-false, leb-true, length-append}
+use Rattle.std.specs.Prelude.{◌≡◌, refl, ◌≢◌, Bool, true, false, cond, List, [], ◌∷◌, ◌++◌, map, ℕ, zero, suc, ◌+◌, ◌-◌, ◌*◌, ◌/◌, ◌%◌, ◌≤◌, ◌<◌, ltb, leb, eqb, length, get_or, set, take, Float}
+use Rattle.std.proofs.Common.{sym, ap, ◌∙◌, true≢false, append-nil, not-suc-le-zero, zero-add, suc-add, add-suc, mul-le-mul, sub-one, arith, eq-eqb, ne_eqb, ltb-false, leb-true, length-append, length-take-le}
 use Rattle.std.proofs.lemmas.List.{map-append, set_comm}
 use Rattle.std.proofs.Math.Numerals.{add-one}
+use Rattle.std.proofs.Math.Seq.{take-suc}
 use Rattle.std.proofs.lemmas.List.Edits.{sets}
 use Rattle.text.specs.Writing.{glyph, digits, places_from, places, number, joined, separator, group, lines, written, bits_at, shown, first_line, answer_text}
 use Rattle.octets.specs.Bits.{float}
@@ -22,6 +23,12 @@ module _ {A : Type 0} where
   set_sets l i j a (b ∷ vs) h =
       let ne : j ≢ i = λ e. omega (arith, add-suc i (length vs)) in
       ap (λ (m : List A). sets m (suc i) vs) (set_comm l j i a b ne) ∙ set_sets (set l i b) (suc i) j a vs (omega (arith, add-suc i (length vs), suc-add i (length vs)))
+
+  -- a list put element by element
+  pub sets_taken : (l : List A) (i k : ℕ) (vs : List A) (d : A) → k < length vs → set (sets l i (take k vs)) (i + k) (get_or vs k d) ≡ sets l i (take (k + 1) vs)
+  sets_taken l i k vs d h =
+      let e : take (k + 1) vs ≡ take k vs ++ (get_or vs k d ∷ []) = rw (add-one k) (take-suc vs k d h) in
+      rw e (sets_more l i (i + k) (take k vs) (get_or vs k d) (omega (arith, length-take-le k vs (omega arith))))
 
   -- a table put to the front
   pub table_more : (l : List A) (f : ℕ → A) (k : ℕ) → set (sets l 0 (table f k)) k (f k) ≡ sets l 0 (table f (k + 1))

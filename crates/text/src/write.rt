@@ -1,21 +1,34 @@
 // The writer of the program eigtext's answer. A place is stored to by a call that minds the end, so that no function below asks for room.
-ghost use Rattle.std.specs.Prelude.{◌≡◌, ◌<◌, ◌≤◌, set};
+ghost use Rattle.std.specs.Prelude.{◌≡◌, ◌<◌, ◌≤◌, ◌+◌, ◌^◌, set, length};
 ghost use Rattle.std.proofs.lemmas.List.Edits.{sets};
 ghost use Rattle.text.specs.Writing.{glyph, digits, places, number, group, lines, written, bits_at, shown, first_line, answer_text, bad_text};
 ghost use Rattle.text.specs.Stores.{append};
 
 use crate::separator;
+use answers::Answer;
 use octets::bits;
 
 // A store that minds the end.
-pub fn put(out: &mut [u8], at: usize, b: u8)
-    ensures { out.new ≡ set out.old at b }
+pub fn put<T: Copy>(out: &mut [T], at: usize, x: T)
+    ensures { out.new ≡ set out.old at x }
 {
     if at < out.len() {
-        out[at] = b;
+        out[at] = x;
     }
 }
 
+// Bytes, from `at` on; the place behind them.
+pub fn put_all(out: &mut [u8], at: usize, bytes: &[u8]) -> usize
+    requires { at + length bytes.now < 2 ^ 64 }
+    ensures { (result, out.new) ≡ append (at, out.old) bytes.now }
+{
+    for (i, &b) in bytes.iter().enumerate() {
+        put(out, at + i, b);
+    }
+    at + bytes.len()
+}
+
+#[tactic(auto, unfolding(crate::specs::Writing::glyph))]
 fn glyph(d: u64) -> u8
     requires { d < 16 }
     ensures { result ≡ glyph d }
@@ -29,11 +42,9 @@ fn spell(out: &mut [u8], at: usize, base: u64, k: usize, n: u64)
     ensures { out.new ≡ sets out.old at (digits base k n) }
 {
     let mut rest = n;
-    let mut i = k;
-    while i > 0 {
-        i -= 1;
+    for i in (0..k).rev() {
         put(out, at + i, glyph(rest % base));
-        rest = rest / base;
+        rest /= base;
     }
 }
 
@@ -46,7 +57,7 @@ fn places(n: usize) -> usize
         if rest == 0 {
             return k;
         }
-        rest = rest / 10;
+        rest /= 10;
     }
     20
 }
@@ -63,14 +74,11 @@ pub fn put_number(out: &mut [u8], at: usize, n: usize, end: u8) -> usize
 }
 
 // The bits of number k of a result, and a NaN's behind its end.
+#[tactic(auto, unfolding(crate::specs::Writing::bits_at))]
 fn bits_at(res: &[f64], k: usize) -> u64
     ensures { result ≡ bits_at res.now k }
 {
-    if k < res.len() {
-        bits(res[k])
-    } else {
-        0x7ff8_0000_0000_0000
-    }
+    bits(res.get(k).copied().unwrap_or(f64::NAN))
 }
 
 // Word k of a result, and what ends it.
@@ -94,59 +102,39 @@ fn put_lines(out: &mut [u8], at: usize, n: usize, count: usize, res: &[f64]) -> 
 }
 
 // The line of an answer's four numbers; the place behind it.
-fn put_answer(out: &mut [u8], answer: usize, place: usize, index: usize, count: usize) -> usize
-    ensures { (result, out.new) ≡ append (0, out.old) (first_line answer place index count) }
+fn put_answer(out: &mut [u8], a: Answer) -> usize
+    ensures { (result, out.new) ≡ append (0, out.old) (first_line a.answer a.place a.index a.count) }
 {
-    let a = put_number(out, 0, answer, b' ');
-    let b = put_number(out, a, place, b' ');
-    let c = put_number(out, b, index, b' ');
-    put_number(out, c, count, b'\n')
+    let at = put_number(out, 0, a.answer, b' ');
+    let at = put_number(out, at, a.place, b' ');
+    let at = put_number(out, at, a.index, b' ');
+    put_number(out, at, a.count, b'\n')
 }
 
 // Values and vectors are shown where the answer is 0 and there are any. A text has no n above 32.
+#[tactic(auto, unfolding(crate::specs::Writing::shown))]
 fn shown(answer: usize, n: usize) -> bool
     ensures { result ≡ shown answer n }
 {
-    if answer != 0 {
-        return false;
-    }
-    if n < 1 {
-        return false;
-    }
-    n <= 32
+    answer == 0 && 1 <= n && n <= 32
 }
 
 // Writes an answer's text to the front of out, as far as there is room, and gives the text's length.
-pub fn write(
-    answer: usize,
-    place: usize,
-    index: usize,
-    count: usize,
-    n: usize,
-    res: &[f64],
-    out: &mut [u8],
-) -> usize
-    ensures { (result, out.new) ≡ written (answer_text answer place index count n res.now) out.old }
+pub fn write(a: Answer, n: usize, res: &[f64], out: &mut [u8]) -> usize
+    ensures { (result, out.new) ≡ written (answer_text a.answer a.place a.index a.count n res.now) out.old }
 {
-    let at = put_answer(out, answer, place, index, count);
-    if !shown(answer, n) {
-        return at;
+    let at = put_answer(out, a);
+    if shown(a.answer, n) {
+        put_lines(out, at, n, n + n * n, res)
+    } else {
+        at
     }
-    put_lines(out, at, n, n + n * n, res)
 }
 
 // The same for a text that is none: the line `bad text`.
+#[tactic(auto, unfolding(crate::specs::Writing::bad_text))]
 pub fn write_bad(out: &mut [u8]) -> usize
     ensures { (result, out.new) ≡ written bad_text out.old }
 {
-    put(out, 0, b'b');
-    put(out, 1, b'a');
-    put(out, 2, b'd');
-    put(out, 3, b' ');
-    put(out, 4, b't');
-    put(out, 5, b'e');
-    put(out, 6, b'x');
-    put(out, 7, b't');
-    put(out, 8, b'\n');
-    9
+    put_all(out, 0, b"bad text\n")
 }

@@ -1,5 +1,5 @@
 -- No answer is longer than 18036 bytes (`reply_most`, `counts`), and what the reader leaves at the front of an array is the matrix (`is_good`). Laws only.
-use Rattle.std.specs.Prelude.{◌≡◌, refl, List, ◌∷◌, map, ℕ, zero, suc, ◌+◌, ◌*◌, ◌≤◌, length, take, drop}
+use Rattle.std.specs.Prelude.{◌≡◌, refl, Option, Some, None, List, ◌∷◌, map, ℕ, zero, suc, ◌+◌, ◌*◌, ◌≤◌, length, take, drop}
 use Rattle.std.proofs.Common.{sym, ap, ◌∙◌, not-suc-le-zero, le_of_suc-le-suc, mul-le-mul, arith, length-take-le, take_at}
 use Rattle.std.proofs.lemmas.List.{length-map}
 use Rattle.std.proofs.lemmas.List.Edits.{sets, sets-eq}
@@ -7,7 +7,6 @@ use Rattle.std.proofs.Math.Seq.{length-sets}
 use Rattle.grid.specs.Real.{Vec, zero64, zeros}
 use Rattle.eigen_symmetric_eigen.specs.SymmetricEigen.{eigen}
 use Rattle.text.specs.declared.Reading.{Reading}
-use Rattle.text.specs.declared.Reading.TheVariants.{Good, Bad}
 use Rattle.text.specs.Reading.{Text, good, bad, reading, outcome}
 use Rattle.octets.specs.Bits.{float}
 use Rattle.text.specs.Accepts.{Written}
@@ -64,15 +63,27 @@ pub record Read (t : List ℕ) (n limit : ℕ) (new : Vec) : Type 0 where
   pub room : n * n ≤ length new
   pub answer : solved n limit (take (n * n) new) ≡ reply t
 
-read_good : (t : List ℕ) (old new : Vec) (x : Reading) (n limit : ℕ) (y : Text) → 1024 ≤ length old → reading t ≡ y → ◌≡◌ {A = Reading × Vec} (x, new) (outcome y old)
-    → x ≡ Good n limit → Read t n limit new
-unfolding reply
+-- what a good text is answered
+abbrev pub read : ℕ → ℕ → Option Reading
+read n limit = Some (record { n = n; limit = limit })
+
+n_in : Option Reading → ℕ
+n_in (Some r) = r.n
+n_in None = 0
+
+limit_in : Option Reading → ℕ
+limit_in (Some r) = r.limit
+limit_in None = 0
+
+read_good : (t : List ℕ) (old new : Vec) (x : Option Reading) (n limit : ℕ) (y : Text) → 1024 ≤ length old → reading t ≡ y → ◌≡◌ {A = Option Reading × Vec} (x, new) (outcome y old)
+    → x ≡ read n limit → Read t n limit new
+unfolding reply n_in limit_in
 read_good t old new x n limit (good m l ws) h a e g =
     let w : Written t m l ws = accepted t m l ws a in
-    let i : ◌≡◌ {A = Reading} (Good m l) (Good n limit) = sym (ap (λ (p : Reading × Vec). p.0) e) ∙ g in
-    let p : m ≡ n = cc in
-    let q : l ≡ limit = cc in
-    let f : new ≡ sets old 0 (map float ws) = ap (λ (p : Reading × Vec). p.1) e in
+    let i : ◌≡◌ {A = Option Reading} (read m l) (read n limit) = sym (ap (λ (p : Option Reading × Vec). p.0) e) ∙ g in
+    let p : m ≡ n = ap n_in i in
+    let q : l ≡ limit = ap limit_in i in
+    let f : new ≡ sets old 0 (map float ws) = ap (λ (p : Option Reading × Vec). p.1) e in
     let s : m * m ≤ 1024 = mul-le-mul w.size w.size in
     let k : length (map float ws) ≡ m * m = length-map ws float ∙ w.count in
     let r : Read t m l new = record {
@@ -82,21 +93,21 @@ read_good t old new x n limit (good m l ws) h a e g =
     } in
     rw (p, q) at r
 read_good t old new x n limit bad h a e g =
-    let i : ◌≡◌ {A = Reading} Bad (Good n limit) = sym (ap (λ (p : Reading × Vec). p.0) e) ∙ g in
+    let i : ◌≡◌ {A = Option Reading} None (read n limit) = sym (ap (λ (p : Option Reading × Vec). p.0) e) ∙ g in
     let z : ◌≡◌ {A = ℕ} 0 1 = cc in
     absurd (omega arith)
 
-read_bad : (t : List ℕ) (old new : Vec) (x : Reading) (y : Text) → reading t ≡ y → ◌≡◌ {A = Reading × Vec} (x, new) (outcome y old) → x ≡ Bad → bad_text ≡ reply t
+read_bad : (t : List ℕ) (old new : Vec) (x : Option Reading) (y : Text) → reading t ≡ y → ◌≡◌ {A = Option Reading × Vec} (x, new) (outcome y old) → x ≡ None → bad_text ≡ reply t
 unfolding reply
 read_bad t old new x (good m l ws) a e g =
-    let i : ◌≡◌ {A = Reading} (Good m l) Bad = sym (ap (λ (p : Reading × Vec). p.0) e) ∙ g in
+    let i : ◌≡◌ {A = Option Reading} (read m l) None = sym (ap (λ (p : Option Reading × Vec). p.0) e) ∙ g in
     let z : ◌≡◌ {A = ℕ} 0 1 = cc in
     absurd (omega arith)
 read_bad t old new x bad a e g = rw a
 
-pub is_good : (t : List ℕ) (old new : Vec) (x : Reading) (n limit : ℕ) → 1024 ≤ length old → ◌≡◌ {A = Reading × Vec} (x, new) (outcome (reading t) old)
-    → x ≡ Good n limit → Read t n limit new
+pub is_good : (t : List ℕ) (old new : Vec) (x : Option Reading) (n limit : ℕ) → 1024 ≤ length old → ◌≡◌ {A = Option Reading × Vec} (x, new) (outcome (reading t) old)
+    → x ≡ read n limit → Read t n limit new
 is_good t old new x n limit h e g = read_good t old new x n limit (reading t) h refl e g
 
-pub is_bad_lem : (t : List ℕ) (old new : Vec) (x : Reading) → ◌≡◌ {A = Reading × Vec} (x, new) (outcome (reading t) old) → x ≡ Bad → bad_text ≡ reply t
+pub is_bad_lem : (t : List ℕ) (old new : Vec) (x : Option Reading) → ◌≡◌ {A = Option Reading × Vec} (x, new) (outcome (reading t) old) → x ≡ None → bad_text ≡ reply t
 is_bad_lem t old new x e g = read_bad t old new x (reading t) refl e g

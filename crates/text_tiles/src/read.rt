@@ -5,138 +5,122 @@ ghost use Rattle.text_tiles_definition.specs.Lines.{fresh, ended, end_of, most_o
 
 use tally::{added, empty};
 use tally_definition::Tally;
-use text_tiles_definition::Series;
+use text_tiles_definition::{ANSWER, ENDED, PASSES, Series};
+
+// The series before a line.
+fn fresh(tally: Tally) -> Series
+    ensures { result ≡ fresh tally }
+{
+    Series {
+        tally,
+        stage: ANSWER,
+        answer: 0,
+        begun: false,
+        value: 0,
+    }
+}
 
 // The series before its first byte.
 pub fn begun() -> Series
     ensures { result ≡ fresh none }
 {
-    let sum = empty();
-    Series {
-        tally: sum,
-        stage: 0,
-        answer: 0,
-        begun: false,
-        value: 0,
-    }
+    fresh(empty())
 }
 
 // The series at its end.
-pub fn ended(t: Tally) -> Series
-    ensures { result ≡ ended t }
+pub fn ended(tally: Tally) -> Series
+    ensures { result ≡ ended tally }
 {
     Series {
-        tally: t,
-        stage: 2,
-        answer: 0,
-        begun: false,
-        value: 0,
+        stage: ENDED,
+        ..fresh(tally)
     }
 }
 
 // The byte that ends a number, and the most that it may be.
+#[tactic(auto, unfolding(text_tiles_definition::specs::Lines::end_of))]
 fn end_of(stage: usize) -> u8
     ensures { result ≡ end_of stage }
 {
-    if stage == 0 { b' ' } else { b'\n' }
+    if stage == ANSWER { b' ' } else { b'\n' }
 }
 
+#[tactic(auto, unfolding(text_tiles_definition::specs::Lines::most_of))]
 fn most_of(stage: usize) -> usize
     ensures { result ≡ most_of stage }
 {
-    if stage == 0 { 15 } else { 15360 }
+    if stage == ANSWER { 15 } else { 15360 }
 }
 
-// A digit more, if the number is not too large then; what is over 1,536 is, ten times.
+// A digit more, if the number is not too large then.
 fn grown(s: Series, d: usize) -> Series
     requires { d < 10 }
     ensures { result ≡ grown s d }
 {
-    let sum = s.tally;
-    if s.value > 1536 {
-        return ended(sum);
-    }
-    let v = s.value * 10 + d;
-    if v > most_of(s.stage) {
-        return ended(sum);
+    let value = s.value.saturating_mul(10).saturating_add(d);
+    if value > most_of(s.stage) {
+        return ended(s.tally);
     }
     Series {
-        tally: sum,
-        stage: s.stage,
-        answer: s.answer,
         begun: true,
-        value: v,
+        value,
+        ..s
     }
 }
 
 // None behind a first 0.
+#[tactic(auto, unfolding(text_tiles_definition::specs::Lines::digit))]
 fn digit(s: Series, d: usize) -> Series
     requires { d < 10 }
     ensures { result ≡ digit s d }
 {
-    if s.value != 0 {
-        return grown(s, d);
-    }
-    if s.begun {
-        let sum = s.tally;
-        return ended(sum);
+    if s.value == 0 && s.begun {
+        return ended(s.tally);
     }
     grown(s, d)
 }
 
 // A tile that was read: added, or refused, which ends the series.
+#[tactic(auto, unfolding(text_tiles_definition::specs::Lines::tile))]
 fn tile(t: Tally, answer: usize, passes: usize) -> Series
     ensures { result ≡ tile t answer passes }
 {
-    let r = added(t, answer, passes);
-    if r.refusal != 0 {
-        return ended(t);
-    }
-    let sum = r.tally;
-    Series {
-        tally: sum,
-        stage: 0,
-        answer: 0,
-        begun: false,
-        value: 0,
+    match added(t, answer, passes) {
+        Ok(sum) => fresh(sum),
+        Err(_) => ended(t),
     }
 }
 
 // A number's end.
+#[tactic(auto, unfolding(text_tiles_definition::specs::Lines::closed))]
 fn closed(s: Series) -> Series
     ensures { result ≡ closed s }
 {
-    let sum = s.tally;
     if !s.begun {
-        return ended(sum);
+        return ended(s.tally);
     }
-    if s.stage == 0 {
+    if s.stage == ANSWER {
         return Series {
-            tally: sum,
-            stage: 1,
+            stage: PASSES,
             answer: s.value,
-            begun: false,
-            value: 0,
+            ..fresh(s.tally)
         };
     }
-    tile(sum, s.answer, s.value)
+    tile(s.tally, s.answer, s.value)
 }
 
+#[tactic(auto, unfolding(text_tiles_definition::specs::Lines::step))]
 fn step(s: Series, b: u8) -> Series
     ensures { result ≡ step s b }
 {
-    if s.stage > 1 {
+    if s.stage >= ENDED {
         return s;
     }
     if b == end_of(s.stage) {
         return closed(s);
     }
-    let sum = s.tally;
-    if b < b'0' {
-        return ended(sum);
-    }
-    if b >= b':' {
-        return ended(sum);
+    if !b.is_ascii_digit() {
+        return ended(s.tally);
     }
     digit(s, (b - b'0') as usize)
 }
@@ -146,8 +130,8 @@ pub fn read(s: Series, t: &[u8]) -> Series
     ensures { result ≡ run s t.now }
 {
     let mut x = s;
-    for i in 0..t.len() {
-        x = step(x, t[i]);
+    for &b in t {
+        x = step(x, b);
     }
     x
 }

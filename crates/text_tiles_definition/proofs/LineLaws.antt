@@ -12,7 +12,6 @@ use Rattle.grid.specs.LoopLaws.{both}
 use Rattle.tally_definition.specs.Figures.{Tile}
 use Rattle.tally_definition.specs.Tallies.{refusal, next, outcome, none}
 use Rattle.tally_definition.specs.Series.{figures, series, taken_of}
-use Rattle.tally_definition.specs.TallyLaws.{taken}
 use Rattle.tally_definition.proofs.Counted.{counted_taken}
 use Rattle.tally_definition.specs.declared.Tally.{Tally}
 use Rattle.text_tiles_definition.specs.declared.Series.{Series}

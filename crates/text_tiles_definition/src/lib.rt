@@ -3,8 +3,15 @@
 
 use tally_definition::Tally;
 
-// The tally so far; which number of a line is being read, 0 the answer, 1 the passes, 2 none, since the series has ended; the
-// answer, once it has been read; whether a digit of the number has been read; the number so far.
+// Which number of a line is being read: the answer, the passes, or none, since the series has ended.
+pub const ANSWER: usize = 0;
+
+pub const PASSES: usize = 1;
+
+pub const ENDED: usize = 2;
+
+// The tally so far; which number of a line is being read; the answer, once it has been read; whether a digit of the number has been
+// read; the number so far. The numbers stay: docs/PROMISES-C.md names text_tiles::read::read and more, which take every Series.
 #[derive(Clone, Copy)]
 pub struct Series {
     pub tally: Tally,

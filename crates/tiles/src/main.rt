@@ -2,13 +2,13 @@
 // standard output.
 #![tactic(auto)]
 
-use text_tiles_definition::Series;
+use text_tiles_definition::{ENDED, Series};
 
 // The input's pieces up to the series' end. The bound is none that an input has: it says that this ends.
 fn series(input: i32) -> Series {
     let mut s = text_tiles::read::begun();
-    for k in 0..18446744073709551615usize {
-        if s.stage > 1 {
+    for _ in 0..usize::MAX {
+        if s.stage >= ENDED {
             return s;
         }
         let mut piece = io::buffer();

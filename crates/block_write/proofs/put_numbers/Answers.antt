@@ -1,38 +1,22 @@
-use mathlib.Core.Path.{refl}
-use native.Mathlib.Omega.{arith}
-use lib.ListN.{length}
-use Rattle.block_write.specs.PutLaws.{bytes_one, bytes_two, bytes_three, numbers_none, numbers_one, numbers_two, numbers_three}
+use Rattle.std.proofs.Common.{sym, arith, map, length}
+use Rattle.std.proofs.lemmas.List.{length-map}
+use Rattle.block_write.specs.PutLaws.{counts_next, numbers_next, numbers_done}
 use Rattle.block_write.proofs.put_numbers.Goals as goal
 
-pub returns-then-count-lt1 : goal.returns-then-count-lt1
-returns-then-count-lt1 c = numbers_none c.args.count c.args.p1.now c.args.p2.now c.args.p3.now c.args.off c.args.out.now c.if-count-lt1.true
-
 pub put_words-requires : goal.put_words-requires
-put_words-requires c = omega (arith, c.requires, bytes_one c.args.count (length c.args.p1.now) (length c.args.p2.now) (length c.args.p3.now) c.if-count-lt1.false)
+put_words-requires g c = omega (arith, counts_next c.args.parts.now c.loop-numbers.numbers-index c.loop-numbers.next c.loop-numbers-item.result c.loop-numbers-test.true c.loop-numbers-item.is (λ p. length p.1.now) _ c.loop-numbers.invariant.within)
 
-pub returns-then-count-lt2 : goal.returns-then-count-lt2
-returns-then-count-lt2 c = numbers_one c.args.count c.args.p1.now c.args.p2.now c.args.p3.now c.args.off c.args.out.now c.put_words.new.out c.if-count-lt1.false c.if-count-lt2.true c.put_words.ensures
+pub overflow_mul-next : goal.overflow_mul-next
+overflow_mul-next g c = omega (arith, counts_next c.args.parts.now c.loop-numbers.numbers-index c.loop-numbers.next c.loop-numbers-item.result c.loop-numbers-test.true c.loop-numbers-item.is (λ p. length p.1.now) _ c.loop-numbers.invariant.within)
 
-pub overflow_mul-second : goal.overflow_mul-second
-overflow_mul-second c = omega (arith, c.requires, bytes_one c.args.count (length c.args.p1.now) (length c.args.p2.now) (length c.args.p3.now) c.if-count-lt1.false)
+pub overflow_add-next : goal.overflow_add-next
+overflow_add-next g c = omega (arith, counts_next c.args.parts.now c.loop-numbers.numbers-index c.loop-numbers.next c.loop-numbers-item.result c.loop-numbers-test.true c.loop-numbers-item.is (λ p. length p.1.now) _ c.loop-numbers.invariant.within)
 
-pub overflow_add-second : goal.overflow_add-second
-overflow_add-second c = omega (arith, c.requires, bytes_one c.args.count (length c.args.p1.now) (length c.args.p2.now) (length c.args.p3.now) c.if-count-lt1.false)
-
-pub put_words-requires-2 : goal.put_words-requires-2
-put_words-requires-2 c = omega (arith, c.requires, bytes_two c.args.count (length c.args.p1.now) (length c.args.p2.now) (length c.args.p3.now) c.if-count-lt2.false)
-
-pub returns-then-count-lt3 : goal.returns-then-count-lt3
-returns-then-count-lt3 c = numbers_two c.args.count c.args.p1.now c.args.p2.now c.args.p3.now c.args.off _ c.args.out.now c.put_words.new.out c.put_words-2.new.out c.if-count-lt2.false c.if-count-lt3.true refl c.put_words.ensures c.put_words-2.ensures
-
-pub overflow_mul-p2 : goal.overflow_mul-p2
-overflow_mul-p2 c = omega (arith, c.requires, bytes_two c.args.count (length c.args.p1.now) (length c.args.p2.now) (length c.args.p3.now) c.if-count-lt2.false)
-
-pub overflow_add-second-2 : goal.overflow_add-second-2
-overflow_add-second-2 c = omega (arith, c.requires, bytes_two c.args.count (length c.args.p1.now) (length c.args.p2.now) (length c.args.p3.now) c.if-count-lt2.false)
-
-pub put_words-requires-3 : goal.put_words-requires-3
-put_words-requires-3 c = omega (arith, c.requires, bytes_three c.args.count (length c.args.p1.now) (length c.args.p2.now) (length c.args.p3.now) c.if-count-lt3.false)
+pub loop-numbers-preserved : goal.loop-numbers-preserved
+loop-numbers-preserved g c = record {
+  within = counts_next c.args.parts.now c.loop-numbers.numbers-index c.loop-numbers.next c.loop-numbers-item.result c.loop-numbers-test.true c.loop-numbers-item.is (λ p. length p.1.now) _ c.loop-numbers.invariant.within;
+  put = numbers_next c.args.parts.now c.loop-numbers.numbers-index c.loop-numbers.next c.loop-numbers-item.result c.loop-numbers-test.true c.loop-numbers-item.is (λ p. (p.0, map g.W.Word.word p.1.now)) c.loop-numbers.out c.put_words.new.out _ (sym (length-map c.loop-numbers-item.result.1.now g.W.Word.word)) c.put_words.ensures c.loop-numbers.invariant.put;
+}
 
 pub returns : goal.returns
-returns c = numbers_three c.args.count c.args.p1.now c.args.p2.now c.args.p3.now c.args.off _ _ c.args.out.now c.put_words.new.out c.put_words-2.new.out c.put_words-3.new.out c.if-count-lt3.false refl refl c.put_words.ensures c.put_words-2.ensures c.put_words-3.ensures
+returns g c = numbers_done c.args.parts.now c.loop-numbers.numbers-index _ (λ p. (p.0, map g.W.Word.word p.1.now)) c.loop-numbers.out c.loop-numbers-test.false c.loop-numbers.invariant.put

@@ -1,15 +1,15 @@
-use borrow.Author.Tests.{eq-eqb, ne_eqb}
+use Rattle.answers.proofs.VerdictLaws.{on_ok, on_err, fails}
 use Rattle.covariance.specs.Covariance.{covariance}
 use Rattle.covariance.proofs.Steps.{sized}
 use Rattle.covariance.proofs.covariance.Goals as goal
 
-pub returns-then-check-ne0 : goal.returns-then-check-ne0
-unfolding covariance
-returns-then-check-ne0 c = rw (← c.checks-check.ensures, ne_eqb _ 0 c.if-check-ne0.true)
-
 pub compute-requires : goal.compute-requires
-compute-requires c = sized _ _ _ _ c.checks-check.ensures c.if-check-ne0.false
+compute-requires c = sized _ _ _ _ (on_ok c.checks.ensures c.in-Ok.is)
 
-pub returns : goal.returns
+pub returns-in-Ok : goal.returns-in-Ok
 unfolding covariance
-returns c = rw (← c.checks-check.ensures, eq-eqb _ 0 c.if-check-ne0.false) c.compute.ensures
+returns-in-Ok c = rw (on_ok c.checks.ensures c.in-Ok.is, c.into.ensures) c.compute.ensures
+
+pub returns-in-Err : goal.returns-in-Err
+unfolding covariance
+returns-in-Err c = rw (on_err c.checks.ensures c.in-Err.is, fails c.in-Err.r, c.into-in-Err.ensures)

@@ -1,15 +1,15 @@
-use borrow.Author.Tests.{eq-eqb, ne_eqb}
+use Rattle.answers.proofs.VerdictLaws.{on_ok, on_err, fails}
 use Rattle.covariance_sums.specs.Sums.{sums}
 use Rattle.covariance_sums.specs.SumsLaws.{sized}
 use Rattle.covariance_sums.proofs.sums.Goals as goal
 
-pub returns-then-check-ne0 : goal.returns-then-check-ne0
-unfolding sums
-returns-then-check-ne0 c = rw (← c.checks-check.ensures, ne_eqb _ 0 c.if-check-ne0.true)
-
 pub put_sums-requires : goal.put_sums-requires
-put_sums-requires c = sized _ _ _ _ c.checks-check.ensures c.if-check-ne0.false
+put_sums-requires c = sized _ _ _ _ (on_ok c.checks.ensures c.in-Ok.is)
 
-pub returns : goal.returns
+pub returns-in-Ok : goal.returns-in-Ok
 unfolding sums
-returns c = rw (← c.checks-check.ensures, eq-eqb _ 0 c.if-check-ne0.false, c.done.ensures, c.put_sums.ensures)
+returns-in-Ok c = rw (on_ok c.checks.ensures c.in-Ok.is, c.done.ensures, c.put_sums.ensures)
+
+pub returns-in-Err : goal.returns-in-Err
+unfolding sums
+returns-in-Err c = rw (on_err c.checks.ensures c.in-Err.is, fails c.in-Err.r, c.into.ensures)

@@ -1,40 +1,17 @@
-use mathlib.Core.Path.{◌∙◌, ap}
-use native.Mathlib.Omega.{arith}
+use mathlib.Core.Path.{◌∙◌, sym, ap}
 use borrow.Author.Tests.{eq-eqb, ne_eqb}
-use Rattle.grid.specs.Real.{zeros}
 use Rattle.eigen_steps.specs.Steps.{start_entered}
-use Rattle.eigen_steps.specs.StepsLaws.{new_run, cleared_start}
+use Rattle.eigen_steps.specs.StepsLaws.{ended_with, cleared_start}
 use Rattle.eigen_steps.proofs.enter.Goals as goal
 
-pub shape_of-work-then-x-ne0 : goal.shape_of-work-then-x-ne0
-shape_of-work-then-x-ne0 c = omega (arith, c.fill.auto, c.fill-2.auto)
-
-pub shape_of-res-then-x-ne0 : goal.shape_of-res-then-x-ne0
-shape_of-res-then-x-ne0 c = omega (arith, c.fill.auto, c.fill-2.auto)
-
-pub returns-then-x-ne0 : goal.returns-then-x-ne0
+pub returns-in-Some : goal.returns-in-Some
 unfolding start_entered
-returns-then-x-ne0 c = rw (← c.first_bad_lower.ensures, ← c.refusal7-x.ensures, ne_eqb _ _ c.if-x-ne0.true) (cleared_start _ _ _ _ c.args.work.now c.args.res.now _ _ _ c.new_run.ensures c.fill.ensures c.fill-2.ensures c.requires.2 c.requires.3)
+returns-in-Some c = rw (sym c.first_bad_lower.ensures ∙ c.in-Some.is) (cleared_start _ _ _ _ c.args.work.now c.args.res.now _ _ _ _ c.new-q.ensures (c.ended.ensures ∙ ap (ended_with c.new-q.result) c.into.ensures) c.fill.ensures c.fill-2.ensures c.requires.2 c.requires.3)
 
-pub shape_of-work-then-n-eq0 : goal.shape_of-work-then-n-eq0
-shape_of-work-then-n-eq0 c = omega (arith, c.fill.auto, c.fill-2.auto)
-
-pub shape_of-res-then-n-eq0 : goal.shape_of-res-then-n-eq0
-shape_of-res-then-n-eq0 c = omega (arith, c.fill.auto, c.fill-2.auto)
-
-pub returns-then-n-eq0 : goal.returns-then-n-eq0
+pub returns-in-None : goal.returns-in-None
 unfolding start_entered
-returns-then-n-eq0 c = rw (← c.first_bad_lower.ensures, ← c.refusal7-x.ensures, eq-eqb _ _ c.if-x-ne0.false, eq-eqb _ _ c.if-n-eq0.true) (cleared_start _ _ _ _ c.args.work.now c.args.res.now _ _ _ (c.new_run-then-n-eq0.ensures ∙ (λ i. new_run c.args.n c.args.limit c.args.edition 1 (c.done.ensures i))) c.fill.ensures c.fill-2.ensures c.requires.2 c.requires.3)
+returns-in-None c = rw (sym c.first_bad_lower.ensures ∙ c.in-None.is, eq-eqb _ _ c.if-n-eq0.true) (cleared_start _ _ _ _ c.args.work.now c.args.res.now _ _ _ _ c.new-q.ensures (c.ended-in-None.ensures ∙ ap (ended_with c.new-q.result) c.done.ensures) c.fill.ensures c.fill-2.ensures c.requires.2 c.requires.3)
 
-pub begin-requires : goal.begin-requires
-begin-requires c = (omega arith, c.requires.0, c.requires.1, c.fill.ensures ∙ ap zeros c.requires.2, c.fill-2.ensures ∙ ap zeros c.requires.3)
-
-pub shape_of-work : goal.shape_of-work
-shape_of-work c = omega (arith, c.fill.auto, c.fill-2.auto)
-
-pub shape_of-res : goal.shape_of-res
-shape_of-res c = omega (arith, c.fill.auto, c.fill-2.auto)
-
-pub returns : goal.returns
+pub returns-in-None-2 : goal.returns-in-None-2
 unfolding start_entered
-returns c = rw (← c.first_bad_lower.ensures, ← c.refusal7-x.ensures, eq-eqb _ _ c.if-x-ne0.false, ne_eqb _ _ c.if-n-eq0.false) c.begin.ensures
+returns-in-None-2 c = rw (sym c.first_bad_lower.ensures ∙ c.in-None-2.is, ne_eqb _ _ c.if-n-eq0.false) c.begin.ensures

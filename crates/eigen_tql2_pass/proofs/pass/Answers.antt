@@ -3,4 +3,4 @@ use Rattle.eigen_tql2_pass.proofs.pass.Goals as goal
 
 pub returns : goal.returns
 unfolding pass
-returns c = rw (← c.transform-h.ensures, ← c.verdict-t.ensures)
+returns c = rw (← c.transform-h.ensures, c.judged.ensures)

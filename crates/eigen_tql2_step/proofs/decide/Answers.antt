@@ -9,5 +9,5 @@ returns-then-undecided c = λ v. rw (← c.undecided.ensures, c.if-undecided.tru
 pub onward-requires : goal.onward-requires
 onward-requires c = omega (arith, closed_at _ _ [] _ _ _ _ (c.close.ensures []))
 
-pub returns : goal.returns
-returns c = λ v. rw (← c.undecided.ensures, c.if-undecided.false, ← c.close.ensures v, c.onward.ensures)
+pub returns-else-undecided : goal.returns-else-undecided
+returns-else-undecided c = λ v. rw (← c.undecided.ensures, c.if-undecided.false, ← c.close.ensures v, c.onward.ensures)

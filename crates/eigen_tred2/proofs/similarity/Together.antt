@@ -2,13 +2,12 @@
 use mathlib.Core.Path.{◌≡◌, refl, sym, ap, ◌∙◌}
 use mathlib.Core.Logic.{◌≢◌}
 use Prim.Native.Nat.{ℕ, ◌+◌, ◌*◌, ◌<◌, ◌≤◌}
-use native.Mathlib.Nat.{le_antisymm}
 use native.Mathlib.Omega.{arith}
 use lib.Ieee.{Float, nan}
 use lib.ListN.{length, set, length-set}
 use lib.Seq.{get_or-set_same, get_or-set_other, set-set, set_comm}
 use Rattle.grid.specs.Loop.{upto}
-use Rattle.grid.specs.LoopLaws.{upto_more, upto_both, upto_keeps, upto_same, start, more}
+use Rattle.grid.specs.LoopLaws.{upto_more, upto_both, upto_keeps, upto_same, start, more, joined}
 use Rattle.grid.specs.Real.{Vec, at, ◌⊕◌, ◌⊗◌}
 use Rattle.grid.specs.Cell.{at2, put2}
 use Rattle.grid.specs.CellLaws.{put_elsewhere, upto_long}
@@ -17,13 +16,10 @@ use Rattle.eigen_tred2_definition.specs.Tred2Steps.{similar_step, similarity_ste
 use Rattle.eigen_tred2.specs.ColumnPairs.{sums, two_step, two_columns, pair_step}
 use Rattle.eigen_tred2.specs.declared.column_pairs.Pair.{Pair}
 
--- ---- a loop in two parts, and its first turn by itself
-
-behind : {S : Type 0} (f : ℕ → S → S) (a b c : ℕ) (s₀ : S) {s : S} → a ≤ b → b ≤ c → s ≡ upto f a b s₀ → upto f b c s ≡ upto f a c s₀
-behind f a b c s₀ {s} h l e = upto_both (λ k u t. u ≡ upto f a k s₀) f f b c s s l (λ k u t p q r. more f a k s₀ (omega arith) r) e
+-- ---- the first turn of a loop by itself
 
 first_turn : {S : Type 0} (f : ℕ → S → S) (a c : ℕ) (s : S) → a < c → upto f a c s ≡ upto f (a + 1) c (f a s)
-first_turn f a c s h = sym (behind f a (a + 1) c s (omega arith) (omega arith) (more f a a s (omega arith) (start f a s)))
+first_turn f a c s h = sym (joined f a (a + 1) c s (omega arith) (omega arith) (more f a a s (omega arith) (start f a s)))
 
 -- ---- one column
 
@@ -171,11 +167,3 @@ pairs n i d v₀ e₀ v e q h l m r =
     pair n i (q * 2) d v e h l m
     ∙ more step 0 (q * 2 + 1) (v₀, e₀) (omega arith) (more step 0 (q * 2) (v₀, e₀) (omega arith) r)
     ∙ ap (λ (k : ℕ). upto step 0 k (v₀, e₀)) (omega arith)
-
-pub pairs_done : {S : Type 0} (f : ℕ → S → S) (s₀ : S) {s : S} {q b : ℕ} → q ≤ b → b ≤ q → s ≡ upto f 0 (q * 2) s₀ → s ≡ upto f 0 (b * 2) s₀
-pairs_done f s₀ p r e = e ∙ ap (λ (k : ℕ). upto f 0 (k * 2) s₀) (le_antisymm p r)
-
--- and what is left behind them
-pub rest : {S : Type 0} (f : ℕ → S → S) (a : ℕ) {i j : ℕ} (s₀ : S) {s₁ s : S} → a ≤ i → j ≤ i → i ≤ j
-    → s₁ ≡ upto f 0 a s₀ → s ≡ upto f a j s₁ → s ≡ upto f 0 i s₀
-rest f a {i} {j} s₀ {s₁} h p r e g = g ∙ ap (λ (k : ℕ). upto f a k s₁) (le_antisymm p r) ∙ behind f 0 a i s₀ (omega arith) h e

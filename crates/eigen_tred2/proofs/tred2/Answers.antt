@@ -1,10 +1,6 @@
-use native.Mathlib.Omega.{arith}
 use Rattle.eigen_tred2_definition.specs.Tred2.{tred2}
 use Rattle.eigen_tred2.proofs.tred2.Goals as goal
 
-pub put1-requires : goal.put1-requires
-put1-requires c = omega (arith, c.requires, c.reduction.auto)
-
 pub returns : goal.returns
 unfolding tred2
-returns c = rw (← c.copy_last.ensures, ← c.reduction.ensures, ← c.accumulation.ensures, ← c.move_last.ensures, ← c.put.ensures, ← c.put1.ensures)
+returns c = rw (← c.copy_last.ensures, ← c.reduction.ensures, ← c.accumulation.ensures, ← c.move_last.ensures, ← c.put.ensures)

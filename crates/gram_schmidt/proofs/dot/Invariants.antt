@@ -1,11 +1,8 @@
 use mathlib.Core.Path.{◌≡◌}
-use Prim.Native.Nat.{◌-◌, ◌≤◌}
+use lib.ListN.{length}
 use Rattle.grid.specs.Loop.{upto}
 use Rattle.grid.specs.Real.{zero64, ◌⊕◌, ◌⊗◌, at}
 use Rattle.gram_schmidt.proofs.dot.Given as goal
 
-abbrev pub invariant-loop-row : goal.invariant-loop-row
-invariant-loop-row l = (l.row ≤ l.m) × (l.acc ≡ upto (λ row acc. acc ⊕ at l.b row ⊗ at l.c row) 0 l.row zero64)
-
-abbrev pub decreases-loop-row : goal.decreases-loop-row
-decreases-loop-row l = l.m - l.row
+abbrev pub invariant-loop-x : goal.invariant-loop-x
+invariant-loop-x l = l.acc ≡ upto (λ row acc. acc ⊕ at l.b row ⊗ at l.c row) 0 (length l.yielded) zero64

@@ -5,11 +5,11 @@ use Rattle.gram_schmidt.specs.Gram.{lessened}
 use Rattle.gram_schmidt.proofs.lessen.Goals as goal
 
 pub loop-row-init : goal.loop-row-init
-loop-row-init c = (omega arith, refl, start _ _ _)
+loop-row-init c = start _ _ _
 
 pub loop-row-preserved : goal.loop-row-preserved
-loop-row-preserved c = (omega arith, omega arith, next _ _ _ _ (omega arith) c.loop-row.invariant.2 (rw (← c.at1.ensures, ← c.at1-in-loop-row.ensures, ← c.put1.ensures)))
+loop-row-preserved c = next _ _ _ _ (omega arith) c.loop-row.invariant refl
 
 pub returns : goal.returns
 unfolding lessened
-returns c = done _ _ _ (omega arith) (omega arith) c.loop-row.invariant.2
+returns c = done _ _ _ (omega arith) (omega arith) c.loop-row.invariant

@@ -1,12 +1,8 @@
 use mathlib.Core.Path.{◌≡◌}
-use Prim.Native.Nat.{◌-◌, ◌≤◌}
-use lib.ListN.{length, set}
+use lib.ListN.{set}
 use Rattle.grid.specs.Loop.{upto}
 use Rattle.grid.specs.Real.{at, ◌⊖◌, ◌⊗◌}
 use Rattle.gram_schmidt.proofs.lessen.Given as goal
 
 abbrev pub invariant-loop-row : goal.invariant-loop-row
-invariant-loop-row l = (l.row ≤ l.m) × (length l.c ≡ length l.initial.c) × (l.c ≡ upto (λ row c. set c row (at c row ⊖ l.proj ⊗ at l.b row)) 0 l.row l.initial.c)
-
-abbrev pub decreases-loop-row : goal.decreases-loop-row
-decreases-loop-row l = l.m - l.row
+invariant-loop-row l = l.c ≡ upto (λ row c. set c row (at c row ⊖ l.proj ⊗ at l.b row)) 0 l.row l.initial.c

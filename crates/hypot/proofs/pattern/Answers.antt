@@ -1,15 +1,13 @@
-use mathlib.Core.Path.{◌∙◌, sym, ap, subst}
-use mathlib.Core.Bool.{Bool, not}
-use lib.Dec.{T}
-use lib.Ieee.{binary64, to_bits}
-use Rattle.hypot.specs.Patterns.{no_nan_of, nan_of}
+use Rattle.std.proofs.Common.{◌≡◌, true, false, refl, sym, ap, ◌∙◌, true≢false}
+use lib.Ieee.{Float, nan, inf, fin, binary64, is_nan, eq, to_bits}
+use Rattle.hypot.specs.Patterns.{nan_of}
 use Rattle.hypot.proofs.pattern.Goals as goal
 
-pub float_to_bits-result : goal.float_to_bits-result
-float_to_bits-result c = subst (λ (t : Bool). T (not t)) (sym (no_nan_of c.magnitude-m.result c.if-m.true)) tt
+differs : (x : Float) → is_nan x ≡ true → eq x x ≡ false
+unfolding is_nan eq
+differs nan h = refl
+differs (inf s) h = absurd (true≢false (sym h))
+differs (fin s m e) h = absurd (true≢false (sym h))
 
-pub returns-then-m : goal.returns-then-m
-returns-then-m c = ap (to_bits binary64) c.magnitude-m.ensures
-
-pub returns : goal.returns
-returns c = nan_of c.magnitude-m.result c.if-m.false ∙ ap (to_bits binary64) c.magnitude-m.ensures
+pub returns-then-is_nan : goal.returns-then-is_nan
+returns-then-is_nan c = nan_of c.magnitude-m.result (differs _ (sym c.is_nan.ensures.value ∙ c.if-is_nan.true)) ∙ ap (to_bits binary64) c.magnitude-m.ensures

@@ -1,4 +1,4 @@
-use borrow.Author.Tests.{eq-eqb, ne_eqb}
+use Rattle.std.proofs.Common.{eq-eqb, ne_eqb}
 use Rattle.hypot.specs.Edition.{pythag}
 use Rattle.hypot.proofs.pythag.Goals as goal
 
@@ -6,6 +6,6 @@ pub returns-then-edition-eq1 : goal.returns-then-edition-eq1
 unfolding pythag
 returns-then-edition-eq1 c = rw (eq-eqb c.args.edition 1 c.if-edition-eq1.true) c.hypot.ensures
 
-pub returns : goal.returns
+pub returns-else-edition-eq1 : goal.returns-else-edition-eq1
 unfolding pythag
-returns c = rw (ne_eqb c.args.edition 1 c.if-edition-eq1.false) c.hypot2.ensures.value
+returns-else-edition-eq1 c = rw (ne_eqb c.args.edition 1 c.if-edition-eq1.false) c.hypot2.ensures.value

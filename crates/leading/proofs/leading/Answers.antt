@@ -1,15 +1,16 @@
-use borrow.Author.Tests.{eq-eqb, ne_eqb}
+use mathlib.Core.Path.{refl, sym}
+use Rattle.answers.proofs.VerdictLaws.{on_ok, on_err, fails}
 use Rattle.leading.specs.Leading.{leading}
 use Rattle.leading.specs.ChecksLaws.{checked}
 use Rattle.leading.proofs.leading.Goals as goal
 
-pub returns-then-check-ne0 : goal.returns-then-check-ne0
-unfolding leading
-returns-then-check-ne0 c = rw (← c.checks-check.ensures, ne_eqb _ 0 c.if-check-ne0.true)
-
 pub scanned-requires : goal.scanned-requires
-scanned-requires c = let c = checked _ _ _ _ c.checks-check.ensures c.if-check-ne0.false in (c.fits, c.result, c.room)
+scanned-requires c = let k = checked _ _ _ _ (sym (on_ok c.checks.ensures c.in-Ok.is)) refl in (k.fits, k.result, k.room)
 
-pub returns : goal.returns
+pub returns-in-Ok : goal.returns-in-Ok
 unfolding leading
-returns c = rw (← c.checks-check.ensures, eq-eqb _ 0 c.if-check-ne0.false) c.scanned.ensures
+returns-in-Ok c = rw (on_ok c.checks.ensures c.in-Ok.is) c.scanned.ensures
+
+pub returns-in-Err : goal.returns-in-Err
+unfolding leading
+returns-in-Err c = rw (on_err c.checks.ensures c.in-Err.is, fails c.in-Err.r, c.into.ensures)

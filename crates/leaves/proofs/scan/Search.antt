@@ -1,4 +1,5 @@
 -- The steps of a scan: where it ends, and its counters.
+use Rattle.std.specs.Prelude.{None}
 use mathlib.Core.Path.{◌≡◌, refl, sym, ap, ◌∙◌}
 use mathlib.Core.Bool.{Bool, true, false, not}
 use Prim.Native.Nat.{ℕ, zero, suc, ◌+◌, ◌*◌, ◌/◌, ◌%◌, ◌<◌, ◌≤◌}
@@ -12,9 +13,8 @@ use Rattle.grid.specs.Real.{Vec}
 use Rattle.grid.specs.CellLaws.{cell}
 use lib.Ieee.{Float}
 use Rattle.leaves.specs.Leaf.{is_finite}
-use Rattle.leaves.specs.Scan.{class_of, scan, place_of}
+use Rattle.leaves.specs.Scan.{class_of, scan, place_of, bad_at}
 use Rattle.leaves.specs.ScanLaws.{after, cell_at, first_bad_of}
-use Rattle.leaves.specs.declared.Bad.TheVariants.{At, Nowhere}
 use Rattle.leaves.specs.declared.Place.{Place}
 
 -- the search so far: what is left to look at gives what the whole gives
@@ -24,16 +24,16 @@ Left x k n = first (λ j. not (is_finite (x j))) k n ≡ first (λ j. not (is_fi
 pub left_more : (x : ℕ → Float) (k n : ℕ) → k < n → not (is_finite (x k)) ≡ false → Left x k n → Left x (k + 1) n
 left_more x k n h e g = first_next (λ j. not (is_finite (x j))) k n h e g
 
-pub found_here : (x : ℕ → Float) (k n : ℕ) {c : ℕ} → k < n → not (is_finite (x k)) ≡ true → c ≡ class_of (x k) → Left x k n → At k c ≡ scan x n
+pub found_here : (x : ℕ → Float) (k n : ℕ) {c : ℕ} → k < n → not (is_finite (x k)) ≡ true → c ≡ class_of (x k) → Left x k n → bad_at k c ≡ scan x n
 unfolding scan
 found_here x k n h e s g = rw (← first_here (λ j. not (is_finite (x j))) k n h e g, lt-ltb k n h, s)
 
-pub found_none : (x : ℕ → Float) (k n : ℕ) → n ≤ k → Left x k n → Nowhere ≡ scan x n
+pub found_none : (x : ℕ → Float) (k n : ℕ) → n ≤ k → Left x k n → None ≡ scan x n
 unfolding scan
 found_none x k n h g = rw (← first_none (λ j. not (is_finite (x j))) k n h g, le-ltb k n h)
 
 -- no columns, nothing found
-pub no_column : (rows cols : ℕ) (v : Vec) → cols ≡ 0 → Nowhere ≡ first_bad_of rows cols v
+pub no_column : (rows cols : ℕ) (v : Vec) → cols ≡ 0 → None ≡ first_bad_of rows cols v
 unfolding first_bad_of
 no_column rows cols v e = found_none (cell_at rows cols v) 0 (rows * cols) (rw e (omega arith)) refl
 

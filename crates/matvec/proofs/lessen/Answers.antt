@@ -3,4 +3,4 @@ use Rattle.matvec.proofs.lessen.Goals as goal
 
 pub returns : goal.returns
 unfolding without
-returns c = rw (← c.dot-proj.ensures) c.add.ensures
+returns c = rw (← rw c.requires at c.dot-proj.ensures) c.add.ensures

@@ -1,5 +1,4 @@
 -- After a refusal the turns that are left change nothing.
-use mathlib.Core.Path.{refl}
 use Prim.Native.Nat.{◌+◌}
 use native.Mathlib.Omega.{arith}
 use Rattle.grid.specs.LoopLaws.{start, next, done}
@@ -11,15 +10,15 @@ use Rattle.qr_q.proofs.Early.{stays}
 use Rattle.qr_q.proofs.columns.Goals as goal
 
 pub loop-j-init : goal.loop-j-init
-loop-j-init c = (omega arith, refl, refl, refl, rw c.done-r.ensures, rw c.done-r.ensures (start _ _ _))
+loop-j-init c = (rw c.done-r.ensures, rw c.done-r.ensures (start _ _ _))
 
 pub returns-then-r-ne0 : goal.returns-then-r-ne0
 unfolding columns
-returns-then-r-ne0 c = stays (column_step c.args.m c.args.k) 0 (answered 0 0 0 0, c.args.q.now) (λ i. rw (ne_eqb _ 0 c.if-r-ne0.true)) (c.loop-j.j + 1) c.args.k (omega arith) (omega arith) (next _ _ _ _ (omega arith) c.loop-j.invariant.5 (rw (eq-eqb _ 0 c.loop-j.invariant.4) c.column-r.ensures))
+returns-then-r-ne0 c = stays (column_step c.args.m c.args.k) 0 (answered 0 0 0 0, c.args.q.now) (λ i. rw (ne_eqb _ 0 c.if-r-ne0.true)) (c.loop-j.j + 1) c.args.k (omega arith) (omega arith) (next _ _ _ _ (omega arith) c.loop-j.invariant.1 (rw (eq-eqb _ 0 c.loop-j.invariant.0) c.column-r.ensures))
 
 pub loop-j-preserved : goal.loop-j-preserved
-loop-j-preserved c = (omega arith, omega arith, omega arith, omega arith, c.if-r-ne0.false, next _ _ _ _ (omega arith) c.loop-j.invariant.5 (rw (eq-eqb _ 0 c.loop-j.invariant.4) c.column-r.ensures))
+loop-j-preserved c = (c.if-r-ne0.false, next _ _ _ _ (omega arith) c.loop-j.invariant.1 (rw (eq-eqb _ 0 c.loop-j.invariant.0) c.column-r.ensures))
 
 pub returns : goal.returns
 unfolding columns
-returns c = done _ _ _ (omega arith) (omega arith) c.loop-j.invariant.5
+returns c = done _ _ _ (omega arith) (omega arith) c.loop-j.invariant.1

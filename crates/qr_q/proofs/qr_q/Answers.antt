@@ -1,15 +1,15 @@
-use borrow.Author.Tests.{eq-eqb, ne_eqb}
+use Rattle.answers.proofs.VerdictLaws.{on_ok, on_err, fails}
 use Rattle.qr_q.specs.QrQ.{qr_q}
 use Rattle.qr_q.proofs.Early.{sized}
 use Rattle.qr_q.proofs.qr_q.Goals as goal
 
-pub returns-then-check-ne0 : goal.returns-then-check-ne0
-unfolding qr_q
-returns-then-check-ne0 c = rw (← c.checks-check.ensures, ne_eqb _ 0 c.if-check-ne0.true)
-
 pub scanned-requires : goal.scanned-requires
-scanned-requires c = sized _ _ _ _ c.checks-check.ensures c.if-check-ne0.false
+scanned-requires c = sized _ _ _ _ (on_ok c.checks.ensures c.in-Ok.is)
 
-pub returns : goal.returns
+pub returns-in-Ok : goal.returns-in-Ok
 unfolding qr_q
-returns c = rw (← c.checks-check.ensures, eq-eqb _ 0 c.if-check-ne0.false) c.scanned.ensures
+returns-in-Ok c = rw (on_ok c.checks.ensures c.in-Ok.is) c.scanned.ensures
+
+pub returns-in-Err : goal.returns-in-Err
+unfolding qr_q
+returns-in-Err c = rw (on_err c.checks.ensures c.in-Err.is, fails c.in-Err.r, c.into.ensures)

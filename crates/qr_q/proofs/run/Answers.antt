@@ -19,4 +19,4 @@ pub columns-requires : goal.columns-requires
 columns-requires c = (omega arith, length-take-le c.args.m _ c.requires.0, length-take-le c.args.m _ c.requires.0)
 
 pub returns : goal.returns
-returns c = rw (← c.copy.ensures) c.columns.ensures
+returns c = rw (← c.copy_from_slice.ensures.after) c.columns.ensures

@@ -1,8 +1,8 @@
-use borrow.Author.Tests.{eq-eqb, ne_eqb}
+use mathlib.Core.Path.{◌∙◌, sym}
 use Rattle.qr_q.proofs.scanned.Goals as goal
 
-pub returns-then-bad-ne0 : goal.returns-then-bad-ne0
-returns-then-bad-ne0 c = rw (← c.first_bad.ensures, ← c.refusal7-bad.ensures, ne_eqb _ _ c.if-bad-ne0.true) c.refuse.ensures
+pub returns-in-Some : goal.returns-in-Some
+returns-in-Some c = rw (sym c.first_bad.ensures ∙ c.in-Some.is, ← c.into.ensures) c.refuse.ensures
 
-pub returns : goal.returns
-returns c = rw (← c.first_bad.ensures, ← c.refusal7-bad.ensures, eq-eqb _ _ c.if-bad-ne0.false) c.run.ensures
+pub returns-in-None : goal.returns-in-None
+returns-in-None c = rw (sym c.first_bad.ensures ∙ c.in-None.is) c.run.ensures

@@ -5,10 +5,14 @@ use Rattle.root.specs.declared.Found.{Found}
 use Rattle.root.specs.declared.side_by_side.Lane.{Lane}
 use Rattle.root.proofs.School.{none, Turns, turns_start, turns_again, turns_done, next_down, next_two, next_pairs, shown}
 
--- ---- where u is taken off d at once, and that leaves y
+-- ---- where u is taken off d at once
 
-module _ (d u y : ℕ) (hd : d < 2 ^ 60) (hu : u < 2 ^ 60) (hy : y < 2 ^ 64) (e : (y + u) % 2 ^ 64 ≡ d) where
-  -- the top bit says which is the greater
+module _ (d u : ℕ) (hd : d < 2 ^ 60) (hu : u < 2 ^ 60) where
+  -- what comes out
+  abbrev y : ℕ
+  y = (d + (2 ^ 64 - u)) % 2 ^ 64
+
+  -- its top bit says which is the greater
   digit_is : ltb y (2 ^ 63) ≡ not (ltb d u)
   digit_is = go (ltb d u) (ltb→lt d u) (nltb→le d u)
     where

@@ -1,83 +1,11 @@
-use mathlib.Core.Path.{◌∙◌}
-use Prim.Native.Nat.{ℕ, ◌+◌, ◌*◌}
-use native.Mathlib.Omega.{arith}
-use Rattle.store.proofs.Fits.{fits, own_parts}
-use mathlib.Core.List.{List}
+use Rattle.std.proofs.Common.{List, ℕ, ◌∙◌}
 use Rattle.store_definition.specs.Store.{fetch_of}
-use borrow.Author.Tests.{eq-eqb, ne_eqb}
-use Rattle.store_definition.specs.Owners.{quota_of, start_for, fetch_for}
+use Rattle.store_definition.specs.Owners.{fetch_for}
+use Rattle.store.proofs.Fits.{own_parts}
 use Rattle.store.proofs.fetch.Goals as goal
 
-pub returns-then-barred-ne0 : goal.returns-then-barred-ne0
+pub returns-in-Ok : goal.returns-in-Ok
 unfolding fetch_for
-returns-then-barred-ne0 c = rw (← c.bar-barred.ensures, ne_eqb c.bar-barred.result 0 c.if-barred-ne0.true, c.refused.ensures)
-
-pub overflow_mul-a : goal.overflow_mul-a
-overflow_mul-a c = omega (arith, fits c.args.owner c.args.list.now c.args.tiles.now c.args.bytes.now c.bar-barred.result c.bar-barred.ensures c.if-barred-ne0.false)
-
-pub overflow_add-a : goal.overflow_add-a
-overflow_add-a c = omega (arith, fits c.args.owner c.args.list.now c.args.tiles.now c.args.bytes.now c.bar-barred.result c.bar-barred.ensures c.if-barred-ne0.false)
-
-pub overflow_add-e : goal.overflow_add-e
-overflow_add-e c = omega (arith, fits c.args.owner c.args.list.now c.args.tiles.now c.args.bytes.now c.bar-barred.result c.bar-barred.ensures c.if-barred-ne0.false)
-
-pub overflow_mul-b : goal.overflow_mul-b
-overflow_mul-b c = omega (arith, fits c.args.owner c.args.list.now c.args.tiles.now c.args.bytes.now c.bar-barred.result c.bar-barred.ensures c.if-barred-ne0.false)
-
-pub overflow_add-f : goal.overflow_add-f
-overflow_add-f c = omega (arith, fits c.args.owner c.args.list.now c.args.tiles.now c.args.bytes.now c.bar-barred.result c.bar-barred.ensures c.if-barred-ne0.false)
-
-pub bounds-list-1 : goal.bounds-list-1
-bounds-list-1 c = omega (arith, fits c.args.owner c.args.list.now c.args.tiles.now c.args.bytes.now c.bar-barred.result c.bar-barred.ensures c.if-barred-ne0.false)
-
-pub overflow_mul-at : goal.overflow_mul-at
-overflow_mul-at c = omega (arith, fits c.args.owner c.args.list.now c.args.tiles.now c.args.bytes.now c.bar-barred.result c.bar-barred.ensures c.if-barred-ne0.false)
-
-pub offset_bounds-list-a : goal.offset_bounds-list-a
-offset_bounds-list-a c = omega (arith, fits c.args.owner c.args.list.now c.args.tiles.now c.args.bytes.now c.bar-barred.result c.bar-barred.ensures c.if-barred-ne0.false)
-
-pub bounds-list-a : goal.bounds-list-a
-bounds-list-a c = omega (arith, fits c.args.owner c.args.list.now c.args.tiles.now c.args.bytes.now c.bar-barred.result c.bar-barred.ensures c.if-barred-ne0.false)
-
-pub overflow_add-end : goal.overflow_add-end
-overflow_add-end c = omega (arith, fits c.args.owner c.args.list.now c.args.tiles.now c.args.bytes.now c.bar-barred.result c.bar-barred.ensures c.if-barred-ne0.false)
-
-pub offset_bounds-list-a-2 : goal.offset_bounds-list-a-2
-offset_bounds-list-a-2 c = omega (arith, fits c.args.owner c.args.list.now c.args.tiles.now c.args.bytes.now c.bar-barred.result c.bar-barred.ensures c.if-barred-ne0.false)
-
-pub slice_bounds-fetch-count : goal.slice_bounds-fetch-count
-slice_bounds-fetch-count c = omega (arith, fits c.args.owner c.args.list.now c.args.tiles.now c.args.bytes.now c.bar-barred.result c.bar-barred.ensures c.if-barred-ne0.false)
-
-pub slice_bounds-fetch-start : goal.slice_bounds-fetch-start
-slice_bounds-fetch-start c = omega (arith, fits c.args.owner c.args.list.now c.args.tiles.now c.args.bytes.now c.bar-barred.result c.bar-barred.ensures c.if-barred-ne0.false)
-
-pub slice_bounds-fetch-end : goal.slice_bounds-fetch-end
-slice_bounds-fetch-end c = omega (arith, fits c.args.owner c.args.list.now c.args.tiles.now c.args.bytes.now c.bar-barred.result c.bar-barred.ensures c.if-barred-ne0.false)
-
-pub offset_bounds-tiles-b : goal.offset_bounds-tiles-b
-offset_bounds-tiles-b c = omega (arith, fits c.args.owner c.args.list.now c.args.tiles.now c.args.bytes.now c.bar-barred.result c.bar-barred.ensures c.if-barred-ne0.false)
-
-pub slice_bounds-fetch-count-2 : goal.slice_bounds-fetch-count-2
-slice_bounds-fetch-count-2 c = omega (arith, fits c.args.owner c.args.list.now c.args.tiles.now c.args.bytes.now c.bar-barred.result c.bar-barred.ensures c.if-barred-ne0.false)
-
-pub slice_bounds-fetch-start-2 : goal.slice_bounds-fetch-start-2
-slice_bounds-fetch-start-2 c = omega (arith, fits c.args.owner c.args.list.now c.args.tiles.now c.args.bytes.now c.bar-barred.result c.bar-barred.ensures c.if-barred-ne0.false)
-
-pub slice_bounds-fetch-end-2 : goal.slice_bounds-fetch-end-2
-slice_bounds-fetch-end-2 c = omega (arith, fits c.args.owner c.args.list.now c.args.tiles.now c.args.bytes.now c.bar-barred.result c.bar-barred.ensures c.if-barred-ne0.false)
-
-pub slice_bounds-fetch-count-3 : goal.slice_bounds-fetch-count-3
-slice_bounds-fetch-count-3 c = omega (arith, fits c.args.owner c.args.list.now c.args.tiles.now c.args.bytes.now c.bar-barred.result c.bar-barred.ensures c.if-barred-ne0.false)
-
-pub slice_bounds-fetch-start-3 : goal.slice_bounds-fetch-start-3
-slice_bounds-fetch-start-3 c = omega (arith, fits c.args.owner c.args.list.now c.args.tiles.now c.args.bytes.now c.bar-barred.result c.bar-barred.ensures c.if-barred-ne0.false)
-
-pub slice_bounds-fetch-end-3 : goal.slice_bounds-fetch-end-3
-slice_bounds-fetch-end-3 c = omega (arith, fits c.args.owner c.args.list.now c.args.tiles.now c.args.bytes.now c.bar-barred.result c.bar-barred.ensures c.if-barred-ne0.false)
-
-pub shape_of-out : goal.shape_of-out
-shape_of-out c = c.fetch.auto.out
-
-pub returns : goal.returns
-unfolding fetch_for
-returns c = rw (← c.bar-barred.ensures, eq-eqb c.bar-barred.result 0 c.if-barred-ne0.false) (c.fetch.ensures ∙ own_parts (λ (l t b : List ℕ). fetch_of 32 l t b c.args.tile c.args.out.now) c.args.list.now c.args.tiles.now c.args.bytes.now (1 + c.args.owner * 34) (c.args.owner * 32) (start_for c.args.owner c.args.list.now) (quota_of c.args.owner c.args.list.now))
+returns-in-Ok c =
+    rw (← c.in-Ok.ensures.refusal, c.answer_of.ensures)
+    (c.fetch.ensures ∙ own_parts c.args.owner c.args.list.now c.args.tiles.now c.args.bytes.now _ c.in-Ok.ensures.part (λ (l t b : List ℕ). fetch_of 32 l t b c.args.tile c.args.out.now))

@@ -1,98 +1,13 @@
-use mathlib.Core.Path.{refl}
-use Prim.Native.Nat.{ℕ, ◌+◌, ◌*◌}
-use native.Mathlib.Omega.{arith}
-use mathlib.Core.List.{List}
-use borrow.Author.Tests.{eq-eqb, ne_eqb}
+use Rattle.std.proofs.Common.{List, ℕ}
 use Rattle.store_definition.specs.Store.{put_of}
-use Rattle.store_definition.specs.Owners.{quota_of, start_for, put_for}
-use Rattle.store.proofs.Fits.{fits, put_back}
+use Rattle.store_definition.specs.Owners.{put_for}
+use Rattle.store.proofs.Fits.{put_back}
+use Rattle.store.specs.Refusals.{verdict}
 use Rattle.store.proofs.put.Goals as goal
 
-pub shape_of-list-then-barred-ne0 : goal.shape_of-list-then-barred-ne0
-shape_of-list-then-barred-ne0 c = refl
-
-pub shape_of-tiles-then-barred-ne0 : goal.shape_of-tiles-then-barred-ne0
-shape_of-tiles-then-barred-ne0 c = refl
-
-pub shape_of-bytes-then-barred-ne0 : goal.shape_of-bytes-then-barred-ne0
-shape_of-bytes-then-barred-ne0 c = refl
-
-pub returns-then-barred-ne0 : goal.returns-then-barred-ne0
+pub returns-in-Ok : goal.returns-in-Ok
 unfolding put_for
-returns-then-barred-ne0 c = rw (← c.bar-barred.ensures, ne_eqb c.bar-barred.result 0 c.if-barred-ne0.true, c.refused.ensures)
-
-pub overflow_mul-a : goal.overflow_mul-a
-overflow_mul-a c = omega (arith, fits c.args.owner c.args.list.now c.args.tiles.now c.args.bytes.now c.bar-barred.result c.bar-barred.ensures c.if-barred-ne0.false)
-
-pub overflow_add-a : goal.overflow_add-a
-overflow_add-a c = omega (arith, fits c.args.owner c.args.list.now c.args.tiles.now c.args.bytes.now c.bar-barred.result c.bar-barred.ensures c.if-barred-ne0.false)
-
-pub overflow_add-e : goal.overflow_add-e
-overflow_add-e c = omega (arith, fits c.args.owner c.args.list.now c.args.tiles.now c.args.bytes.now c.bar-barred.result c.bar-barred.ensures c.if-barred-ne0.false)
-
-pub overflow_mul-b : goal.overflow_mul-b
-overflow_mul-b c = omega (arith, fits c.args.owner c.args.list.now c.args.tiles.now c.args.bytes.now c.bar-barred.result c.bar-barred.ensures c.if-barred-ne0.false)
-
-pub overflow_add-f : goal.overflow_add-f
-overflow_add-f c = omega (arith, fits c.args.owner c.args.list.now c.args.tiles.now c.args.bytes.now c.bar-barred.result c.bar-barred.ensures c.if-barred-ne0.false)
-
-pub bounds-list-1 : goal.bounds-list-1
-bounds-list-1 c = omega (arith, fits c.args.owner c.args.list.now c.args.tiles.now c.args.bytes.now c.bar-barred.result c.bar-barred.ensures c.if-barred-ne0.false)
-
-pub overflow_mul-at : goal.overflow_mul-at
-overflow_mul-at c = omega (arith, fits c.args.owner c.args.list.now c.args.tiles.now c.args.bytes.now c.bar-barred.result c.bar-barred.ensures c.if-barred-ne0.false)
-
-pub offset_bounds-list-a : goal.offset_bounds-list-a
-offset_bounds-list-a c = omega (arith, fits c.args.owner c.args.list.now c.args.tiles.now c.args.bytes.now c.bar-barred.result c.bar-barred.ensures c.if-barred-ne0.false)
-
-pub bounds-list-a : goal.bounds-list-a
-bounds-list-a c = omega (arith, fits c.args.owner c.args.list.now c.args.tiles.now c.args.bytes.now c.bar-barred.result c.bar-barred.ensures c.if-barred-ne0.false)
-
-pub overflow_add-end : goal.overflow_add-end
-overflow_add-end c = omega (arith, fits c.args.owner c.args.list.now c.args.tiles.now c.args.bytes.now c.bar-barred.result c.bar-barred.ensures c.if-barred-ne0.false)
-
-pub offset_bounds-list-a-2 : goal.offset_bounds-list-a-2
-offset_bounds-list-a-2 c = omega (arith, fits c.args.owner c.args.list.now c.args.tiles.now c.args.bytes.now c.bar-barred.result c.bar-barred.ensures c.if-barred-ne0.false)
-
-pub slice_bounds-put-count : goal.slice_bounds-put-count
-slice_bounds-put-count c = omega (arith, fits c.args.owner c.args.list.now c.args.tiles.now c.args.bytes.now c.bar-barred.result c.bar-barred.ensures c.if-barred-ne0.false)
-
-pub slice_bounds-put-start : goal.slice_bounds-put-start
-slice_bounds-put-start c = omega (arith, fits c.args.owner c.args.list.now c.args.tiles.now c.args.bytes.now c.bar-barred.result c.bar-barred.ensures c.if-barred-ne0.false)
-
-pub slice_bounds-put-end : goal.slice_bounds-put-end
-slice_bounds-put-end c = omega (arith, fits c.args.owner c.args.list.now c.args.tiles.now c.args.bytes.now c.bar-barred.result c.bar-barred.ensures c.if-barred-ne0.false)
-
-pub offset_bounds-tiles-b : goal.offset_bounds-tiles-b
-offset_bounds-tiles-b c = omega (arith, fits c.args.owner c.args.list.now c.args.tiles.now c.args.bytes.now c.bar-barred.result c.bar-barred.ensures c.if-barred-ne0.false)
-
-pub slice_bounds-put-count-2 : goal.slice_bounds-put-count-2
-slice_bounds-put-count-2 c = omega (arith, fits c.args.owner c.args.list.now c.args.tiles.now c.args.bytes.now c.bar-barred.result c.bar-barred.ensures c.if-barred-ne0.false)
-
-pub slice_bounds-put-start-2 : goal.slice_bounds-put-start-2
-slice_bounds-put-start-2 c = omega (arith, fits c.args.owner c.args.list.now c.args.tiles.now c.args.bytes.now c.bar-barred.result c.bar-barred.ensures c.if-barred-ne0.false)
-
-pub slice_bounds-put-end-2 : goal.slice_bounds-put-end-2
-slice_bounds-put-end-2 c = omega (arith, fits c.args.owner c.args.list.now c.args.tiles.now c.args.bytes.now c.bar-barred.result c.bar-barred.ensures c.if-barred-ne0.false)
-
-pub slice_bounds-put-count-3 : goal.slice_bounds-put-count-3
-slice_bounds-put-count-3 c = omega (arith, fits c.args.owner c.args.list.now c.args.tiles.now c.args.bytes.now c.bar-barred.result c.bar-barred.ensures c.if-barred-ne0.false)
-
-pub slice_bounds-put-start-3 : goal.slice_bounds-put-start-3
-slice_bounds-put-start-3 c = omega (arith, fits c.args.owner c.args.list.now c.args.tiles.now c.args.bytes.now c.bar-barred.result c.bar-barred.ensures c.if-barred-ne0.false)
-
-pub slice_bounds-put-end-3 : goal.slice_bounds-put-end-3
-slice_bounds-put-end-3 c = omega (arith, fits c.args.owner c.args.list.now c.args.tiles.now c.args.bytes.now c.bar-barred.result c.bar-barred.ensures c.if-barred-ne0.false)
-
-pub shape_of-list : goal.shape_of-list
-shape_of-list c = c.list-1.given.1
-
-pub shape_of-tiles : goal.shape_of-tiles
-shape_of-tiles c = c.tiles-1.given.1
-
-pub shape_of-bytes : goal.shape_of-bytes
-shape_of-bytes c = c.bytes-1.given.1
-
-pub returns : goal.returns
-unfolding put_for
-returns c = rw (← c.bar-barred.ensures, eq-eqb c.bar-barred.result 0 c.if-barred-ne0.false) (put_back (λ (l t b : List ℕ). put_of 32 l t b c.args.tile c.args.block.now) c.args.list.now c.args.tiles.now c.args.bytes.now (1 + c.args.owner * 34) (c.args.owner * 32) (start_for c.args.owner c.args.list.now) (quota_of c.args.owner c.args.list.now) _ c.put.ensures)
+returns-in-Ok c =
+    rw (← c.in-Ok.ensures.refusal, c.answer_of.ensures)
+    (put_back c.args.owner c.args.list.now c.args.tiles.now c.args.bytes.now _ c.in-Ok.ensures.part (λ (l t b : List ℕ). put_of 32 l t b c.args.tile c.args.block.now)
+    (verdict c.put.result, c.put.new.list, c.put.new.tiles, c.put.new.bytes) c.put.ensures)

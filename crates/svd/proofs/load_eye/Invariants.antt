@@ -1,12 +1,7 @@
 use mathlib.Core.Path.{◌≡◌}
-use Prim.Native.Nat.{◌-◌, ◌≤◌}
-use lib.ListN.{length}
 use Rattle.grid.specs.Loop.{upto}
 use Rattle.svd.specs.LoadedLaws.{eye_step}
 use Rattle.svd.proofs.load_eye.Given as goal
 
 abbrev pub invariant-loop-j : goal.invariant-loop-j
-invariant-loop-j l = (l.j ≤ l.cols) × (length l.w ≡ length l.initial.w) × (l.w ≡ upto (eye_step l.rows l.cols) 0 l.j l.initial.w)
-
-abbrev pub decreases-loop-j : goal.decreases-loop-j
-decreases-loop-j l = l.cols - l.j
+invariant-loop-j l = l.w ≡ upto (eye_step l.rows l.cols) 0 l.j l.initial.w

@@ -11,9 +11,9 @@ pub returns-then-m-n : goal.returns-then-m-n
 unfolding source
 returns-then-m-n c = rw (lt-ltb _ _ c.if-m-n.true) c.entry.ensures
 
-pub entry-requires-2 : goal.entry-requires-2
-entry-requires-2 c = omega (arith, tall_longest _ _ c.if-m-n.false, tall_least _ _ c.if-m-n.false)
+pub entry-requires-else-m-n : goal.entry-requires-else-m-n
+entry-requires-else-m-n c = omega (arith, tall_longest _ _ c.if-m-n.false, tall_least _ _ c.if-m-n.false)
 
-pub returns : goal.returns
+pub returns-else-m-n : goal.returns-else-m-n
 unfolding source
-returns c = rw (le-ltb _ _ c.if-m-n.false) c.entry-2.ensures
+returns-else-m-n c = rw (le-ltb _ _ c.if-m-n.false) c.entry-else-m-n.ensures

@@ -1,11 +1,14 @@
-use borrow.Author.Tests.{lt-ltb, le-ltb}
+use Rattle.std.proofs.Common.{◌≡◌, ◌∙◌, ℕ, Bool, true, false, cond, max, ltb, ltb-true, ltb-false, refl, arith}
 use Rattle.svd_sort_svd_descending.specs.Result.{longest}
 use Rattle.svd_sort_svd_descending.proofs.longest.Goals as goal
 
-pub returns-then-m-n : goal.returns-then-m-n
-unfolding longest
-returns-then-m-n c = rw (lt-ltb _ _ c.if-m-n.true)
+larger : (m n : ℕ) → max m n ≡ cond (ltb m n) n m
+larger m n = go (ltb m n) refl
+  where
+    go : (b : Bool) → ltb m n ≡ b → max m n ≡ cond b n m
+    go true e = omega (arith, ltb-true m n e)
+    go false e = omega (arith, ltb-false m n e)
 
-pub returns-else-m-n : goal.returns-else-m-n
+pub returns : goal.returns
 unfolding longest
-returns-else-m-n c = rw (le-ltb _ _ c.if-m-n.false)
+returns c = c.max.ensures ∙ larger c.args.m c.args.n

@@ -1,47 +1,46 @@
-use mathlib.Core.Path.{◌≡◌, ◌∙◌, sym}
-use Prim.Native.Nat.{ℕ}
-use native.Mathlib.Omega.{arith}
-use Rattle.tally_definition.specs.Tallies.{refusal}
-use Rattle.tally_definition.specs.TallyLaws.{Taken, taken}
-use Rattle.tally.specs.OutcomeLaws.{count_small, refused, led, kept}
-use Rattle.tally_definition.specs.declared.Tally.{Tally}
+use Rattle.std.proofs.Common.{rules, ◌≡◌, refl, true, false, arith}
+use Rattle.tally_definition.specs.Figures.{in_range}
+use Rattle.tally_definition.specs.Tallies.{fit}
+use Rattle.tally.specs.OutcomeLaws.{count_small, refused, led, kept, range_refused, fit_refused, not_refused, room}
 use Rattle.tally.proofs.added.Goals as goal
 
-is_zero : (t : Tally) (answer passes r : ℕ) → r ≡ refusal t answer passes → r ≡ 0 → Taken t answer passes
-is_zero t answer passes r e z = taken t answer passes (sym e ∙ z)
+pub returns-then-not-in_range : goal.returns-then-not-in_range
+returns-then-not-in_range c =
+    let e : in_range c.args.answer c.args.passes ≡ false = search rules in
+    refused c.args.t c.args.answer c.args.passes 38 (range_refused _ _ _ e) (λ z. omega arith)
 
-pub returns-then-r-ne0 : goal.returns-then-r-ne0
-returns-then-r-ne0 c = refused c.args.t c.args.answer c.args.passes c.refusal-r.result c.refusal-r.ensures c.if-r-ne0.true
+pub returns-then-not-is_fit : goal.returns-then-not-is_fit
+returns-then-not-is_fit c =
+    let e : in_range c.args.answer c.args.passes ≡ true = search rules in
+    let f : fit c.args.t ≡ false = search rules in
+    refused c.args.t c.args.answer c.args.passes 36 (fit_refused _ _ _ e f) (λ z. omega arith)
 
-pub offset_bounds-counts-answer : goal.offset_bounds-counts-answer
-offset_bounds-counts-answer c = omega (arith, is_zero c.args.t c.args.answer c.args.passes c.refusal-r.result c.refusal-r.ensures c.if-r-ne0.false)
+pub overflow_add-t : goal.overflow_add-t
+overflow_add-t c =
+    let e : in_range c.args.answer c.args.passes ≡ true = search rules in
+    let f : fit c.args.t ≡ true = search rules in
+    omega (arith, room c.args.t c.args.answer c.args.passes e f)
 
-pub bounds-counts-answer : goal.bounds-counts-answer
-bounds-counts-answer c = omega (arith, is_zero c.args.t c.args.answer c.args.passes c.refusal-r.result c.refusal-r.ensures c.if-r-ne0.false)
+pub overflow_add-t-2 : goal.overflow_add-t-2
+overflow_add-t-2 c =
+    let e : in_range c.args.answer c.args.passes ≡ true = search rules in
+    let f : fit c.args.t ≡ true = search rules in
+    omega (arith, count_small c.args.t c.args.answer c.args.passes (room c.args.t c.args.answer c.args.passes e f))
 
-pub overflow_add-counts : goal.overflow_add-counts
-overflow_add-counts c = omega (arith, count_small c.args.t c.args.answer c.args.passes (is_zero c.args.t c.args.answer c.args.passes c.refusal-r.result c.refusal-r.ensures c.if-r-ne0.false))
-
-pub offset_bounds-counts-answer-2 : goal.offset_bounds-counts-answer-2
-offset_bounds-counts-answer-2 c = omega (arith, is_zero c.args.t c.args.answer c.args.passes c.refusal-r.result c.refusal-r.ensures c.if-r-ne0.false)
-
-pub bounds-counts-answer-2 : goal.bounds-counts-answer-2
-bounds-counts-answer-2 c = omega (arith, is_zero c.args.t c.args.answer c.args.passes c.refusal-r.result c.refusal-r.ensures c.if-r-ne0.false)
-
-pub overflow_add-led : goal.overflow_add-led
-overflow_add-led c = omega (arith, is_zero c.args.t c.args.answer c.args.passes c.refusal-r.result c.refusal-r.ensures c.if-r-ne0.false)
-
-pub overflow_add-led-then-t-passes : goal.overflow_add-led-then-t-passes
-overflow_add-led-then-t-passes c = omega (arith, is_zero c.args.t c.args.answer c.args.passes c.refusal-r.result c.refusal-r.ensures c.if-r-ne0.false)
+pub overflow_add-t-3 : goal.overflow_add-t-3
+overflow_add-t-3 c =
+    let e : in_range c.args.answer c.args.passes ≡ true = search rules in
+    let f : fit c.args.t ≡ true = search rules in
+    omega (arith, room c.args.t c.args.answer c.args.passes e f)
 
 pub returns-then-t-passes : goal.returns-then-t-passes
-returns-then-t-passes c = led c.args.t c.args.answer c.args.passes c.refusal-r.result c.refusal-r.ensures c.if-r-ne0.false c.if-t-passes.true
+returns-then-t-passes c =
+    let e : in_range c.args.answer c.args.passes ≡ true = search rules in
+    let f : fit c.args.t ≡ true = search rules in
+    led c.args.t c.args.answer c.args.passes 0 (not_refused _ _ _ e f) refl c.if-t-passes.true
 
-pub overflow_add-more : goal.overflow_add-more
-overflow_add-more c = omega (arith, is_zero c.args.t c.args.answer c.args.passes c.refusal-r.result c.refusal-r.ensures c.if-r-ne0.false)
-
-pub overflow_add-more-2 : goal.overflow_add-more-2
-overflow_add-more-2 c = omega (arith, is_zero c.args.t c.args.answer c.args.passes c.refusal-r.result c.refusal-r.ensures c.if-r-ne0.false)
-
-pub returns : goal.returns
-returns c = kept c.args.t c.args.answer c.args.passes c.refusal-r.result c.refusal-r.ensures c.if-r-ne0.false c.if-t-passes.false
+pub returns-else-t-passes : goal.returns-else-t-passes
+returns-else-t-passes c =
+    let e : in_range c.args.answer c.args.passes ≡ true = search rules in
+    let f : fit c.args.t ≡ true = search rules in
+    kept c.args.t c.args.answer c.args.passes 0 (not_refused _ _ _ e f) refl c.if-t-passes.false

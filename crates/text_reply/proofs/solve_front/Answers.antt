@@ -13,13 +13,13 @@ pub slice_bounds-solve-end : goal.slice_bounds-solve-end
 slice_bounds-solve-end c = sym (length-take-le _ c.args.numbers.now c.requires.1)
 
 pub slice_bounds-solve-end-2 : goal.slice_bounds-solve-end-2
-slice_bounds-solve-end-2 c = sym (length-take-le c.args.n (zeros 32) c.requires.0)
+slice_bounds-solve-end-2 c = sym (length-take-le c.args.reading.n (zeros 32) c.requires.0)
 
 pub slice_bounds-result-end : goal.slice_bounds-result-end
-slice_bounds-result-end c = words_most c.args.n c.requires.0
+slice_bounds-result-end c = words_most c.args.reading.n c.requires.0
 
 pub slice_bounds-solve-end-3 : goal.slice_bounds-solve-end-3
-slice_bounds-solve-end-3 c = sym (length-take-le (c.args.n + c.args.n * c.args.n) (zeros 1056) (words_most c.args.n c.requires.0))
+slice_bounds-solve-end-3 c = sym (length-take-le (c.args.reading.n + c.args.reading.n * c.args.reading.n) (zeros 1056) (words_most c.args.reading.n c.requires.0))
 
 pub returns : goal.returns
-returns c = c.solve.ensures ∙ ap (λ (x : List ℕ). written x c.args.out.now) (solved_front c.args.n c.args.limit (take (c.args.n * c.args.n) c.args.numbers.now) c.requires.0)
+returns c = c.solve.ensures ∙ ap (λ (x : List ℕ). written x c.args.out.now) (solved_front c.args.reading.n c.args.reading.limit (take (c.args.reading.n * c.args.reading.n) c.args.numbers.now) c.requires.0)

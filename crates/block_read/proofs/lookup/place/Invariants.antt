@@ -1,10 +1,7 @@
 use mathlib.Core.Path.{◌≡◌}
-use Prim.Native.Nat.{◌+◌, ◌-◌, ◌*◌, ◌≤◌}
+use Prim.Native.Nat.{◌+◌, ◌-◌, ◌*◌}
 use Rattle.block_read.specs.Held.{place_in}
 use Rattle.block_read.proofs.lookup.place.Given as goal
 
 abbrev pub invariant-loop-i : goal.invariant-loop-i
-invariant-loop-i l = (l.i ≤ l.count) × (place_in l.t (l.count - l.i) (12 + 12 * l.i) l.kind ≡ place_in l.t l.count 12 l.kind)
-
-abbrev pub decreases-loop-i : goal.decreases-loop-i
-decreases-loop-i l = l.count - l.i
+invariant-loop-i l = place_in l.t (l.i-end - l.i) (12 + 12 * l.i) l.kind ≡ place_in l.t l.i-end 12 l.kind

@@ -10,14 +10,14 @@ use Rattle.covariance.specs.SampleSums.{total}
 use Rattle.covariance.proofs.sample_sums.total.Goals as goal
 
 pub loop-k-init : goal.loop-k-init
-loop-k-init c = (omega arith, start _ _ _, zero_in _ _)
+loop-k-init c = (start _ _ _, zero_in _ _)
 
 pub plus-s-requires : goal.plus-s-requires
-plus-s-requires c = sum_fits 32767 32768 c.loop-k.k (to_z w64 c.loop-k.s-bits) _ (omega arith) (omega arith) (omega arith) c.loop-k.invariant.2 c.sample.ensures.1
+plus-s-requires c = sum_fits 32767 32768 c.loop-k.k (to_z w64 c.loop-k.s-bits) _ (omega arith) (omega arith) (omega arith) c.loop-k.invariant.1 c.sample.ensures.1
 
 pub loop-k-preserved : goal.loop-k-preserved
-loop-k-preserved c = (omega arith, next _ _ _ _ (omega arith) c.loop-k.invariant.1 (sum_is 32767 32768 c.loop-k.k (to_z w64 c.loop-k.s-bits) _ (omega arith) (omega arith) (omega arith) c.loop-k.invariant.2 c.sample.ensures.1 c.plus-s.ensures ∙ ap (λ (z : ℤ). (to_z w64 c.loop-k.s-bits) +ℤ z) c.sample.ensures.0), sum_in 32767 32768 c.loop-k.k (to_z w64 c.loop-k.s-bits) _ (omega arith) (omega arith) (omega arith) c.loop-k.invariant.2 c.sample.ensures.1 c.plus-s.ensures)
+loop-k-preserved c = (next _ _ _ _ (omega arith) c.loop-k.invariant.0 (sum_is 32767 32768 c.loop-k.k (to_z w64 c.loop-k.s-bits) _ (omega arith) (omega arith) (omega arith) c.loop-k.invariant.1 c.sample.ensures.1 c.plus-s.ensures ∙ ap (λ (z : ℤ). (to_z w64 c.loop-k.s-bits) +ℤ z) c.sample.ensures.0), sum_in 32767 32768 c.loop-k.k (to_z w64 c.loop-k.s-bits) _ (omega arith) (omega arith) (omega arith) c.loop-k.invariant.1 c.sample.ensures.1 c.plus-s.ensures)
 
 pub returns : goal.returns
 unfolding total
-returns c = (done _ _ _ (omega arith) (omega arith) c.loop-k.invariant.1, rw (le_antisymm {n = c.args.count} {m = c.loop-k.k} (omega arith) (omega arith)) c.loop-k.invariant.2)
+returns c = (done _ _ _ (omega arith) (omega arith) c.loop-k.invariant.0, rw (le_antisymm {n = c.args.count} {m = c.loop-k.k} (omega arith) (omega arith)) c.loop-k.invariant.1)

@@ -1,5 +1,5 @@
 use mathlib.Core.Path.{◌≡◌}
-use Prim.Native.Nat.{◌-◌, ◌*◌, ◌≤◌}
+use Prim.Native.Nat.{◌*◌}
 use Rattle.grid.specs.Loop.{upto}
 use lib.IntN.{pos, ◌+ℤ◌}
 use Rattle.covariance.specs.WholeNumbers.{Range}
@@ -7,7 +7,4 @@ use Rattle.covariance.specs.SampleSums.{sample_at}
 use Rattle.covariance.proofs.sample_sums.total.Given as goal
 
 abbrev pub invariant-loop-k : goal.invariant-loop-k
-invariant-loop-k l = (l.k ≤ l.count) × (l.s ≡ upto (λ k s. s +ℤ sample_at l.a k) 0 l.k (pos 0)) × Range (l.k * 32767) (l.k * 32768) (l.s)
-
-abbrev pub decreases-loop-k : goal.decreases-loop-k
-decreases-loop-k l = l.count - l.k
+invariant-loop-k l = (l.s ≡ upto (λ k s. s +ℤ sample_at l.a k) 0 l.k (pos 0)) × Range (l.k * 32767) (l.k * 32768) (l.s)

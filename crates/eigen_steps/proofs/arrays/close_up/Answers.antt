@@ -1,12 +1,6 @@
-use mathlib.Core.Path.{sym}
-use Rattle.eigen_steps.specs.ArraysLaws.{front_long}
+use native.Mathlib.Omega.{arith}
+use Rattle.eigen_steps.specs.ArraysLaws.{closed_whole, front_long}
 use Rattle.eigen_steps.proofs.arrays.close_up.Goals as goal
 
-pub slice_bounds-close_in-end : goal.slice_bounds-close_in-end
-slice_bounds-close_in-end c = sym (front_long _ c.requires.1)
-
-pub close_in-requires : goal.close_in-requires
-close_in-requires c = (c.requires.0, front_long _ c.requires.1, c.requires.2, c.requires.3)
-
 pub returns : goal.returns
-returns c = c.close_in.ensures
+returns c = closed_whole _ c.args.res.now c.args.work.now _ _ _ c.requires.3 c.turn_out-x.auto.v (omega (arith, c.turn_out-x.auto.d, c.copy_from_slice.auto.self, front_long _ c.requires.1)) _ _ _ c.copy_from_slice.ensures.after c.requires.2 c.turn_out-x.ensures c.give.ensures

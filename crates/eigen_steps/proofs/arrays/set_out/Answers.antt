@@ -1,10 +1,10 @@
 use Rattle.eigen_steps.specs.ArraysLaws.{set_out}
 use Rattle.eigen_steps.proofs.arrays.set_out.Goals as goal
 
-pub returns-then-is_bad : goal.returns-then-is_bad
+pub returns-then-is_none : goal.returns-then-is_none
 unfolding set_out
-returns-then-is_bad c = rw (← c.is_bad.ensures, c.if-is_bad.true, c.fill-then-is_bad.ensures, c.fill.ensures)
+returns-then-is_none c = rw (c.is_none.ensures, c.if-is_none.true, c.put_first.ensures)
 
-pub returns : goal.returns
+pub returns-else-is_none : goal.returns-else-is_none
 unfolding set_out
-returns c = rw (← c.is_bad.ensures, c.if-is_bad.false, c.put_first.ensures)
+returns-else-is_none c = rw (c.is_none.ensures, c.if-is_none.false, c.fill.ensures, c.fill-else-is_none.ensures)

@@ -1,10 +1,11 @@
+use mathlib.Core.Path.{◌∙◌, sym}
 use Rattle.eigen_symmetric_eigen.specs.AfterTred2.{after_tred}
 use Rattle.eigen_symmetric_eigen.proofs.after_tred2.after_tred.Goals as goal
 
-pub returns-then-is_bad : goal.returns-then-is_bad
+pub returns-in-Some : goal.returns-in-Some
 unfolding after_tred
-returns-then-is_bad c = rw (← c.mark0-b.ensures, ← c.is_bad.ensures, c.if-is_bad.true, c.marked.ensures)
+returns-in-Some c = rw (sym c.mark0.ensures ∙ c.in-Some.is, c.answered.ensures)
 
-pub returns : goal.returns
+pub returns-in-None : goal.returns-in-None
 unfolding after_tred
-returns c = rw (← c.mark0-b.ensures, ← c.is_bad.ensures, c.if-is_bad.false) c.tql2.ensures
+returns-in-None c = rw (sym c.mark0.ensures ∙ c.in-None.is) c.tql2.ensures

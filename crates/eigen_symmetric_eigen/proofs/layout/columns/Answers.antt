@@ -1,4 +1,3 @@
-use mathlib.Core.Path.{refl}
 use native.Mathlib.Omega.{arith}
 use Rattle.grid.specs.LoopLaws.{start, next, done}
 use mathlib.Core.Path.{◌∙◌}
@@ -6,10 +5,10 @@ use Rattle.eigen_symmetric_eigen.specs.LayoutLaws.{copied}
 use Rattle.eigen_symmetric_eigen.proofs.layout.columns.Goals as goal
 
 pub loop-i-init : goal.loop-i-init
-loop-i-init c = (omega arith, refl, start _ _ _)
+loop-i-init c = start _ _ _
 
 pub loop-i-preserved : goal.loop-i-preserved
-loop-i-preserved c = (omega arith, omega arith, next _ _ _ _ (omega arith) c.loop-i.invariant.2 c.copy_row.ensures)
+loop-i-preserved c = next _ _ _ _ (omega arith) c.loop-i.invariant c.copy_row.ensures
 
 pub returns : goal.returns
-returns c = done _ _ _ (omega arith) (omega arith) c.loop-i.invariant.2 ∙ copied _ _ _ c.requires.1
+returns c = done _ _ _ (omega arith) (omega arith) c.loop-i.invariant ∙ copied _ _ _ c.requires.1

@@ -1,4 +1,3 @@
-use mathlib.Core.Path.{refl}
 use native.Mathlib.Omega.{arith}
 use Rattle.grid.specs.LoopLaws.{start, next, done}
 use mathlib.Core.Path.{◌≡◌}
@@ -7,11 +6,11 @@ use Rattle.eigen_symmetric_eigen.specs.LayoutSteps.{copy_row}
 use Rattle.eigen_symmetric_eigen.proofs.layout.copy_row.Goals as goal
 
 pub loop-j-init : goal.loop-j-init
-loop-j-init c = (omega arith, refl, start _ _ _)
+loop-j-init c = start _ _ _
 
 pub loop-j-preserved : goal.loop-j-preserved
-loop-j-preserved c = let read : c.entry.result ≡ entry c.args.a.now c.args.n c.args.i c.loop-j.j = c.entry.ensures in (omega arith, omega arith, next _ _ _ _ (omega arith) c.loop-j.invariant.2 (rw (← read, ← c.put.ensures)))
+loop-j-preserved c = let read : c.entry.result ≡ entry c.args.a.now c.args.n c.args.i c.loop-j.j = c.entry.ensures in next _ _ _ _ (omega arith) c.loop-j.invariant (rw (← read, ← c.put.ensures))
 
 pub returns : goal.returns
 unfolding copy_row
-returns c = done _ _ _ (omega arith) (omega arith) c.loop-j.invariant.2
+returns c = done _ _ _ (omega arith) (omega arith) c.loop-j.invariant

@@ -1,19 +1,21 @@
-use borrow.Author.Tests.{eq-eqb, ne_eqb}
+use mathlib.Core.Path.{sym, ◌∙◌}
+use native.Mathlib.Omega.{arith}
+use borrow.Author.Tests.{ne_eqb}
 use Rattle.eigen_tql2.specs.Finish.{ql_finished}
 use Rattle.eigen_tql2.proofs.finish.finish.Goals as goal
 
-pub returns-then-r-eq9 : goal.returns-then-r-eq9
+pub returns-in-9 : goal.returns-in-9
 unfolding ql_finished
-returns-then-r-eq9 c = λ e. rw (eq-eqb _ _ c.if-r-eq9.true, c.answered.ensures)
+returns-in-9 c = λ e. rw (c.in-9.is, c.answered.ensures)
 
-pub returns-then-r-ne0 : goal.returns-then-r-ne0
+pub returns-in-Some : goal.returns-in-Some
 unfolding ql_finished
-returns-then-r-ne0 c = λ e. rw (ne_eqb _ _ c.if-r-eq9.false, ne_eqb _ _ c.if-r-ne0.true, c.answered-then-r-ne0.ensures)
+returns-in-Some c = λ e. rw (c.in-0.is, sym c.mark2.ensures ∙ c.in-Some.is, c.answered-in-Some.ensures)
 
-pub returns-then-is_bad : goal.returns-then-is_bad
+pub returns-in-None : goal.returns-in-None
 unfolding ql_finished
-returns-then-is_bad c = λ e. rw (ne_eqb _ _ c.if-r-eq9.false, eq-eqb _ _ c.if-r-ne0.false, ← c.mark2-b.ensures, ← c.is_bad.ensures, c.if-is_bad.true, c.marked.ensures)
+returns-in-None c = λ e. rw (c.in-0.is, sym c.mark2.ensures ∙ c.in-None.is, ← c.sort.ensures, c.done.ensures)
 
-pub returns : goal.returns
+pub returns-in_default : goal.returns-in_default
 unfolding ql_finished
-returns c = λ e. rw (ne_eqb _ _ c.if-r-eq9.false, eq-eqb _ _ c.if-r-ne0.false, ← c.mark2-b.ensures, ← c.is_bad.ensures, c.if-is_bad.false, ← c.sort.ensures, c.done.ensures)
+returns-in_default c = λ e. rw (ne_eqb c.args.r.stop 9 (omega (arith, c.in_default)), ne_eqb c.args.r.stop 0 (omega (arith, c.in_default)), c.answered-in_default.ensures)

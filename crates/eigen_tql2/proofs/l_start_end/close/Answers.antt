@@ -1,15 +1,16 @@
-use borrow.Author.Tests.{eq-eqb, ne_eqb}
+use native.Mathlib.Omega.{arith}
+use borrow.Author.Tests.{ne_eqb}
 use Rattle.eigen_tql2.specs.LStartEnd.{closed}
 use Rattle.eigen_tql2.proofs.l_start_end.close.Goals as goal
 
-pub returns-then-r-eq1 : goal.returns-then-r-eq1
+pub returns-in-1 : goal.returns-in-1
 unfolding closed
-returns-then-r-eq1 c = λ v. rw (← c.at1.ensures, ← c.put1.ensures, ← c.put1-then-r-eq1.ensures, ← c.stopping.ensures, eq-eqb _ _ c.if-r-eq1.true)
+returns-in-1 c = λ v. rw (c.in-1.is, ← c.stopping.ensures)
 
-pub returns-then-r-eq0 : goal.returns-then-r-eq0
+pub returns-in-0 : goal.returns-in-0
 unfolding closed
-returns-then-r-eq0 c = λ v. rw (← c.stopping-then-r-eq0.ensures, ne_eqb _ _ c.if-r-eq1.false, eq-eqb _ _ c.if-r-eq0.true)
+returns-in-0 c = λ v. rw (c.in-0.is, ← c.stopping-in-0.ensures)
 
-pub returns : goal.returns
+pub returns-in_default : goal.returns-in_default
 unfolding closed
-returns c = λ v. rw (ne_eqb _ _ c.if-r-eq1.false, ne_eqb _ _ c.if-r-eq0.false)
+returns-in_default c = λ v. rw (ne_eqb c.args.r.stop 1 (omega (arith, c.in_default)), ne_eqb c.args.r.stop 0 (omega (arith, c.in_default)))

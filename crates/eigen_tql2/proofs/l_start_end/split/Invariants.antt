@@ -5,7 +5,4 @@ use Rattle.grid.specs.Loop.{first}
 use Rattle.eigen_tql2.proofs.l_start_end.split.Given as goal
 
 abbrev pub invariant-loop-m : goal.invariant-loop-m
-invariant-loop-m l = (l.l ≤ l.m) × (l.m ≤ l.n - 1) × (first (tiny l.e l.tst1) l.m (l.n - 1) ≡ first (tiny l.e l.tst1) l.initial.m (l.n - 1))
-
-abbrev pub decreases-loop-m : goal.decreases-loop-m
-decreases-loop-m l = l.n - l.m
+invariant-loop-m l = (l.l ≤ l.m) × (first (tiny l.e l.tst1) l.m (l.n - 1) ≡ first (tiny l.e l.tst1) l.l (l.n - 1))

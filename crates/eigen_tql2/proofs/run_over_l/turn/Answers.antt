@@ -5,9 +5,9 @@ use Rattle.eigen_tql2.specs.LStartEndBounds.{opened_l}
 use Rattle.eigen_tql2.specs.RunOverLBounds.{opened_ready, iterated_l}
 use Rattle.eigen_tql2.proofs.run_over_l.turn.Goals as goal
 
-pub returns-then-r-ne0 : goal.returns-then-r-ne0
+pub returns-then-r-ne-GOING : goal.returns-then-r-ne-GOING
 unfolding turn
-returns-then-r-ne0 c = rw (ne_eqb _ _ c.if-r-ne0.true)
+returns-then-r-ne-GOING c = rw (ne_eqb _ _ c.if-r-ne-GOING.true)
 
 pub iterate-t-requires : goal.iterate-t-requires
 iterate-t-requires c = (omega arith, rw c.begin-q.ensures (opened_ready _ _ _ _ _ c.requires.0 c.requires.2), c.requires.3)
@@ -17,4 +17,4 @@ close-requires c = omega (arith, c.requires, c.iterate-t.auto, iterated_l _ _ _ 
 
 pub returns : goal.returns
 unfolding turn stage
-returns c = rw (eq-eqb _ _ c.if-r-ne0.false, ← c.begin-q.ensures, ← c.iterate-t.ensures) (c.close.ensures _)
+returns c = rw (eq-eqb _ _ c.if-r-ne-GOING.false, ← c.begin-q.ensures, ← c.iterate-t.ensures) (c.close.ensures _)

@@ -11,4 +11,4 @@ loop-j-preserved c = (omega arith, omega arith, next _ _ _ _ (omega arith) c.loo
 
 pub returns : goal.returns
 unfolding least_from
-returns c = rw (← c.at1-p.ensures) (done _ _ _ (omega arith) (omega arith) c.loop-j.invariant.2)
+returns c = (done _ _ _ (omega arith) (omega arith) c.loop-j.invariant.2)

@@ -3,4 +3,4 @@ use Rattle.eigen_tql2_pass.proofs.ql_transformation.spin_at.Goals as goal
 
 pub returns : goal.returns
 unfolding spin
-returns c = rw (← c.at1-di.ensures, ← c.at1-ei.ensures, ← c.pythag-r.ensures, ← c.put1.ensures, ← c.put1-2.ensures, ← c.rotate.ensures)
+returns c = rw (← c.pythag-r.ensures, ← c.rotate.ensures)

@@ -1,15 +1,14 @@
-use mathlib.Core.Path.{refl}
 use native.Mathlib.Omega.{arith}
 use Rattle.grid.specs.LoopLaws.{start, next, done}
 use Rattle.eigen_tred2.specs.ColumnPairs.{two_columns}
 use Rattle.eigen_tred2.proofs.column_pairs.similar_two.Goals as goal
 
 pub loop-k-init : goal.loop-k-init
-loop-k-init c = (omega arith, omega arith, refl, start _ _ _)
+loop-k-init c = start _ _ _
 
 pub loop-k-preserved : goal.loop-k-preserved
-loop-k-preserved c = (omega arith, omega arith, omega arith, next _ _ _ _ (omega arith) c.loop-k.invariant.3 (rw (c.put1.ensures, c.at1.ensures, c.at1-z.ensures, c.at-y.ensures, c.at-x.ensures)))
+loop-k-preserved c = next _ _ _ _ (omega arith) c.loop-k.invariant (rw (c.at-y.ensures, c.at-x.ensures))
 
 pub returns : goal.returns
 unfolding two_columns
-returns c = done _ _ _ (omega arith) (omega arith) c.loop-k.invariant.3
+returns c = done _ _ _ (omega arith) (omega arith) c.loop-k.invariant

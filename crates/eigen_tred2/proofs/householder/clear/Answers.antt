@@ -1,15 +1,19 @@
-use mathlib.Core.Path.{refl}
+use mathlib.Core.Path.{◌≡◌, ◌∙◌, sym, ap}
+use Prim.Native.Nat.{ℕ, ◌≤◌}
+use mathlib.Core.List.{◌++◌}
 use native.Mathlib.Omega.{arith}
-use Rattle.grid.specs.LoopLaws.{start, next, done}
+use lib.ListN.{length, drop}
+use Rattle.std.proofs.lemmas.Grind.{common_steps}
+use Rattle.grid.specs.Real.{Vec, zero64, zeros}
+use Rattle.grid.specs.TableLaws.{each_so_far, zeros_table}
 use Rattle.eigen_tred2_definition.specs.Tred2.{clear}
 use Rattle.eigen_tred2.proofs.householder.clear.Goals as goal
 
-pub loop-j-init : goal.loop-j-init
-loop-j-init c = (omega arith, refl, start _ _ _)
-
-pub loop-j-preserved : goal.loop-j-preserved
-loop-j-preserved c = (omega arith, omega arith, next _ _ _ _ (omega arith) c.loop-j.invariant.2 (rw (← c.put1.ensures)))
+cleared : (i : ℕ) (e : Vec) → i ≤ length e → zeros i ++ drop i e ≡ clear i e
+unfolding clear
+cleared i e h = ap (λ (z : Vec). z ++ drop i e) (zeros_table i) ∙ sym (each_so_far (λ j x. zero64) e i h)
 
 pub returns : goal.returns
-unfolding clear
-returns c = done _ _ _ (omega arith) (omega arith) c.loop-j.invariant.2
+returns c =
+    let filled : c.fill.new.self ≡ zeros c.args.i = grind (arith, common_steps) in
+    ap (λ (z : Vec). z ++ drop c.args.i c.args.e.now) filled ∙ cleared c.args.i c.args.e.now c.requires

@@ -1,14 +1,19 @@
-use native.Mathlib.Omega.{arith}
+use Rattle.std.proofs.Common.{length, take, ◌≡◌, arith, get_or-take, length-take-le}
+use Rattle.std.specs.Float.{nan}
 use Rattle.grid.specs.LoopLaws.{start, next, done}
 use Rattle.eigen_tred2_definition.specs.Tred2.{scale_of}
 use Rattle.eigen_tred2.proofs.householder.scale_of.Goals as goal
 
-pub loop-k-init : goal.loop-k-init
-loop-k-init c = (omega arith, start _ _ _)
+pub loop-x-init : goal.loop-x-init
+loop-x-init c = start _ _ _
 
-pub loop-k-preserved : goal.loop-k-preserved
-loop-k-preserved c = (omega arith, next _ _ _ _ (omega arith) c.loop-k.invariant.1 (rw (← c.at1.ensures, ← c.magnitude-scale.ensures)))
+pub loop-x-preserved : goal.loop-x-preserved
+loop-x-preserved c =
+    let long : length (take c.args.i c.args.d.now) ≡ c.args.i = length-take-le c.args.i c.args.d.now c.requires in
+    next _ _ _ _ (omega arith) c.loop-x.invariant (rw (← get_or-take c.args.i c.args.d.now c.loop-x.x-index nan (omega arith), ← c.magnitude-scale.ensures))
 
 pub returns : goal.returns
 unfolding scale_of
-returns c = done _ _ _ (omega arith) (omega arith) c.loop-k.invariant.1
+returns c =
+    let long : length (take c.args.i c.args.d.now) ≡ c.args.i = length-take-le c.args.i c.args.d.now c.requires in
+    done _ _ {b = c.args.i} _ (omega arith) (omega arith) c.loop-x.invariant

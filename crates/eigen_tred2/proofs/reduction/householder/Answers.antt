@@ -3,4 +3,4 @@ use Rattle.eigen_tred2.proofs.reduction.householder.Goals as goal
 
 pub returns : goal.returns
 unfolding householder
-returns c = rw (← c.scale_of-scale.ensures, ← c.reduce-h.ensures, ← c.put1.ensures)
+returns c = rw (← c.scale_of-scale.ensures, ← c.reduce-h.ensures)

@@ -5,11 +5,11 @@ use Rattle.eigen_tred2_definition.specs.Tred2.{lessen}
 use Rattle.eigen_tred2.proofs.reduction.lessen.Goals as goal
 
 pub loop-j-init : goal.loop-j-init
-loop-j-init c = (omega arith, refl, start _ _ _)
+loop-j-init c = start _ _ _
 
 pub loop-j-preserved : goal.loop-j-preserved
-loop-j-preserved c = (omega arith, omega arith, next _ _ _ _ (omega arith) c.loop-j.invariant.2 (rw (← c.at1.ensures, ← c.at1-in-loop-j.ensures, ← c.put1.ensures)))
+loop-j-preserved c = next _ _ _ _ (omega arith) c.loop-j.invariant refl
 
 pub returns : goal.returns
 unfolding lessen
-returns c = done _ _ _ (omega arith) (omega arith) c.loop-j.invariant.2
+returns c = done _ _ _ (omega arith) (omega arith) c.loop-j.invariant

@@ -1,12 +1,7 @@
 use mathlib.Core.Path.{◌≡◌}
-use Prim.Native.Nat.{◌-◌, ◌≤◌}
-use lib.ListN.{length}
 use Rattle.grid.specs.Loop.{upto}
 use Rattle.eigen_tred2_definition.specs.Tred2Steps.{lessen_step}
 use Rattle.eigen_tred2.proofs.reduction.lessen.Given as goal
 
 abbrev pub invariant-loop-j : goal.invariant-loop-j
-invariant-loop-j l = (l.j ≤ l.i) × (length l.e ≡ length l.initial.e) × (l.e ≡ upto (lessen_step l.hh l.d) 0 l.j l.initial.e)
-
-abbrev pub decreases-loop-j : goal.decreases-loop-j
-decreases-loop-j l = l.i - l.j
+invariant-loop-j l = l.e ≡ upto (lessen_step l.hh l.d) 0 l.j l.initial.e

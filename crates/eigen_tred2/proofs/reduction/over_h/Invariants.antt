@@ -1,13 +1,8 @@
 use mathlib.Core.Path.{◌≡◌}
-use Prim.Native.Nat.{◌-◌, ◌≤◌}
-use lib.ListN.{length}
 use Rattle.grid.specs.Loop.{upto}
 use Rattle.eigen_tred2_definition.specs.Tred2Steps.{over_hStep}
 use Rattle.grid.specs.Real.{zero64}
 use Rattle.eigen_tred2.proofs.reduction.over_h.Given as goal
 
 abbrev pub invariant-loop-j : goal.invariant-loop-j
-invariant-loop-j l = (l.j ≤ l.i) × (length l.e ≡ length l.initial.e) × ((l.f, l.e) ≡ upto (over_hStep l.h l.d) 0 l.j (zero64, l.initial.e))
-
-abbrev pub decreases-loop-j : goal.decreases-loop-j
-decreases-loop-j l = l.i - l.j
+invariant-loop-j l = (l.f, l.e) ≡ upto (over_hStep l.h l.d) 0 l.j (zero64, l.initial.e)

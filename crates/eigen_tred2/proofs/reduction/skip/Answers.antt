@@ -3,4 +3,4 @@ use Rattle.eigen_tred2.proofs.reduction.skip.Goals as goal
 
 pub returns : goal.returns
 unfolding skip
-returns c = rw (← c.at1.ensures, ← c.put1.ensures, ← c.skip_row.ensures)
+returns c = rw (← c.skip_row.ensures)

@@ -1,15 +1,14 @@
-use mathlib.Core.Path.{refl}
 use native.Mathlib.Omega.{arith}
 use Rattle.grid.specs.LoopLaws.{start, next, done}
 use Rattle.eigen_tred2_definition.specs.Tred2.{skip_row}
 use Rattle.eigen_tred2.proofs.reduction.skip_row.Goals as goal
 
 pub loop-j-init : goal.loop-j-init
-loop-j-init c = (omega arith, refl, refl, start _ _ _)
+loop-j-init c = start _ _ _
 
 pub loop-j-preserved : goal.loop-j-preserved
-loop-j-preserved c = (omega arith, omega arith, omega arith, next _ _ _ _ (omega arith) c.loop-j.invariant.3 (rw (← c.at.ensures, ← c.put1.ensures, ← c.put.ensures, ← c.put-in-loop-j.ensures)))
+loop-j-preserved c = next _ _ _ _ (omega arith) c.loop-j.invariant (rw (← c.at.ensures, ← c.put.ensures, ← c.put-in-loop-j.ensures))
 
 pub returns : goal.returns
 unfolding skip_row
-returns c = done _ _ _ (omega arith) (omega arith) c.loop-j.invariant.3
+returns c = done _ _ _ (omega arith) (omega arith) c.loop-j.invariant

@@ -1,15 +1,14 @@
-use mathlib.Core.Path.{refl}
 use native.Mathlib.Omega.{arith}
 use Rattle.grid.specs.LoopLaws.{start, next, done}
 use Rattle.eigen_tred2_definition.specs.Tred2.{update_column}
 use Rattle.eigen_tred2.proofs.reduction.update_column.Goals as goal
 
 pub loop-k-init : goal.loop-k-init
-loop-k-init c = (omega arith, omega arith, refl, start _ _ _)
+loop-k-init c = start _ _ _
 
 pub loop-k-preserved : goal.loop-k-preserved
-loop-k-preserved c = (omega arith, omega arith, omega arith, next _ _ _ _ (omega arith) c.loop-k.invariant.3 (rw (← c.at1.ensures, ← c.at1-in-loop-k.ensures, ← c.at.ensures, ← c.put.ensures)))
+loop-k-preserved c = next _ _ _ _ (omega arith) c.loop-k.invariant (rw (← c.at.ensures, ← c.put.ensures))
 
 pub returns : goal.returns
 unfolding update_column
-returns c = done _ _ _ (omega arith) (omega arith) c.loop-k.invariant.3
+returns c = done _ _ _ (omega arith) (omega arith) c.loop-k.invariant

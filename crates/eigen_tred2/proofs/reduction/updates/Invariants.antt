@@ -1,12 +1,7 @@
 use mathlib.Core.Path.{◌≡◌}
-use Prim.Native.Nat.{◌-◌, ◌≤◌}
-use lib.ListN.{length}
 use Rattle.grid.specs.Loop.{upto}
 use Rattle.eigen_tred2_definition.specs.Tred2Steps.{updates_step}
 use Rattle.eigen_tred2.proofs.reduction.updates.Given as goal
 
 abbrev pub invariant-loop-j : goal.invariant-loop-j
-invariant-loop-j l = (l.j ≤ l.i) × (length l.v ≡ length l.initial.v) × (length l.d ≡ length l.initial.d) × ((l.v, l.d) ≡ upto (updates_step l.n l.i l.e) 0 l.j (l.initial.v, l.initial.d))
-
-abbrev pub decreases-loop-j : goal.decreases-loop-j
-decreases-loop-j l = l.i - l.j
+invariant-loop-j l = (l.v, l.d) ≡ upto (updates_step l.n l.i l.e) 0 l.j (l.initial.v, l.initial.d)

@@ -4,12 +4,12 @@ use Rattle.grid.specs.LoopLaws.{start, next, done}
 use Rattle.gram_schmidt.specs.Unit.{over}
 use Rattle.gram_schmidt.proofs.normalise.over.Goals as goal
 
-pub loop-row-init : goal.loop-row-init
-loop-row-init c = (omega arith, refl, start _ _ _)
+pub loop-x-init : goal.loop-x-init
+loop-x-init c = start _ _ _
 
-pub loop-row-preserved : goal.loop-row-preserved
-loop-row-preserved c = (omega arith, omega arith, next _ _ _ _ (omega arith) c.loop-row.invariant.2 (rw (← c.at1.ensures, ← c.put1.ensures)))
+pub loop-x-preserved : goal.loop-x-preserved
+loop-x-preserved c = next _ _ _ _ (omega arith) c.loop-x.invariant refl
 
 pub returns : goal.returns
 unfolding over
-returns c = done _ _ _ (omega arith) (omega arith) c.loop-row.invariant.2
+returns c = done _ _ _ (omega arith) (omega arith) c.loop-x.invariant

@@ -6,9 +6,6 @@ use Rattle.lanczos.proofs.checks.work_length.Goals as goal
 pub overflow_mul-result : goal.overflow_mul-result
 overflow_mul-result c = omega (arith, sized c.args.n c.args.k c.size-s.result c.requires.0 c.size-s.ensures)
 
-pub overflow_mul-result-2 : goal.overflow_mul-result-2
-overflow_mul-result-2 c = omega (arith, sized c.args.n c.args.k c.size-s.result c.requires.0 c.size-s.ensures)
-
 pub overflow_add-result : goal.overflow_add-result
 overflow_add-result c = omega (arith, sized c.args.n c.args.k c.size-s.result c.requires.0 c.size-s.ensures)
 

@@ -1,4 +1,3 @@
-use mathlib.Core.Path.{sym}
 use lib.Seq.{length-take-le}
 use borrow.Author.Tests.{not-true, not-false}
 use Rattle.lanczos.specs.Run.{ran}
@@ -8,23 +7,11 @@ use Rattle.lanczos.proofs.run.run.Goals as goal
 
 pub returns-then-not-is_finite : goal.returns-then-not-is_finite
 unfolding ran
-returns-then-not-is_finite c = rw (← c.norm-by.ensures, ← c.is_finite.ensures, not-true c.is_finite.result (ap not c.if-not-is_finite.true), ← c.class_of.ensures, ← c.answered.ensures, c.requires.6)
-
-pub slice_bounds-v-end : goal.slice_bounds-v-end
-slice_bounds-v-end c = c.requires.1.size
-
-pub slice_bounds-begin-end : goal.slice_bounds-begin-end
-slice_bounds-begin-end c = sym (length-take-le c.args.n _ c.requires.1.size)
-
-pub slice_bounds-w-end : goal.slice_bounds-w-end
-slice_bounds-w-end c = c.requires.1.size
-
-pub slice_bounds-begin-end-2 : goal.slice_bounds-begin-end-2
-slice_bounds-begin-end-2 c = sym (length-take-le c.args.n _ c.requires.1.size)
+returns-then-not-is_finite c = rw (← rw c.requires.2 at c.norm-by.ensures, ← c.is_finite.ensures, not-true c.is_finite.result (ap not c.if-not-is_finite.true), ← c.class_of.ensures, ← c.answered.ensures, c.requires.5)
 
 pub begin-requires : goal.begin-requires
-begin-requires c = (c.requires.0, some_steps c.args.n c.args.k _ c.requires.1.some c.size-s.ensures, room_of_lem c.args.n c.args.k _ _ c.requires.1 c.size-s.ensures c.requires.4, c.requires.2, c.requires.3, length-take-le c.args.n _ c.requires.1.size, length-take-le c.args.n _ c.requires.1.size, c.requires.5, c.requires.6)
+begin-requires c = (some_steps c.args.n c.args.k _ c.requires.0.some c.size-s.ensures, room_of_lem c.args.n c.args.k _ _ c.requires.0 c.size-s.ensures c.requires.3, c.requires.1, c.requires.2, length-take-le c.args.n _ c.requires.0.size, length-take-le c.args.n _ c.requires.0.size, c.requires.4, c.requires.5)
 
 pub returns : goal.returns
 unfolding ran
-returns c = rw (← c.norm-by.ensures, ← c.is_finite.ensures, not-false c.is_finite.result (ap not c.if-not-is_finite.false), ← c.size-s.ensures) c.begin.ensures
+returns c = rw (← rw c.requires.2 at c.norm-by.ensures, ← c.is_finite.ensures, not-false c.is_finite.result (ap not c.if-not-is_finite.false), ← c.size-s.ensures) c.begin.ensures

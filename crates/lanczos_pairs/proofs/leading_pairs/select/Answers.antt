@@ -1,4 +1,4 @@
-use mathlib.Core.Path.{◌≡◌, ◌∙◌, refl, sym, ap}
+use mathlib.Core.Path.{◌≡◌, ◌∙◌, refl, ap}
 use Prim.Native.Nat.{ℕ, ◌+◌, ◌≤◌}
 use native.Mathlib.Omega.{arith}
 use lib.ListN.{get_or}
@@ -43,12 +43,6 @@ whole n k m count q vals vecs x y o f few some e g h i =
     ∙ ap (looked f count) (h ∙ pairs_same n k m f q vals vecs (λ t. get_or o t 0) (order (at vals) m) x (λ t l.
     ap (λ (u : List ℕ). get_or u t 0) e ∙ order_noted (λ i. at vals (0 + i)) m t (omega arith) ∙ (λ j. order (λ i. at vals (same i j)) m t)))
     ∙ ap (λ (r : ℕ). looked r count (pairs n k m r q vals vecs (order (at vals) m) x)) g
-
-pub slice_bounds-y-end : goal.slice_bounds-y-end
-slice_bounds-y-end c = c.requires.0
-
-pub slice_bounds-pairs-end : goal.slice_bounds-pairs-end
-slice_bounds-pairs-end c = sym (length-take-le c.args.n _ c.requires.0)
 
 pub pairs-requires : goal.pairs-requires
 pairs-requires c = let b = both-least c.args.k c.args.m c.least-found.result c.least-found.ensures in (c.requires.0, b.0, b.1, c.requires.1, c.requires.2, named _ c.args.m _ c.requires.2 c.note.ensures, c.requires.3, c.requires.4, c.requires.5, length-take-le c.args.n _ c.requires.0, c.requires.6)

@@ -3,7 +3,7 @@ use Rattle.lanczos_steps.proofs.start_vector.first.Goals as goal
 
 pub returns-then-by : goal.returns-then-by
 unfolding started
-returns-then-by c = rw (c.if-by.true, ← c.copy.ensures) c.over.ensures
+returns-then-by c = rw (c.if-by.true, ← c.requires, ← c.copy_from_slice.ensures.after) c.over.ensures
 
 pub returns-else-by : goal.returns-else-by
 unfolding started

@@ -6,8 +6,8 @@ use mathlib.Core.Bool.{true}
 use Rattle.leaves.specs.FiniteLaws.{all_step}
 use Rattle.leaves.proofs.scan.all_finite.Given as goal
 
-abbrev pub invariant-loop-k : goal.invariant-loop-k
-invariant-loop-k l = (l.k ≤ length l.d) × (l.all ≡ upto (all_step l.d) 0 l.k true)
+abbrev pub invariant-loop-x : goal.invariant-loop-x
+invariant-loop-x l = (l.x-index ≤ length l.d) × (l.all ≡ upto (all_step l.d) 0 l.x-index true)
 
-abbrev pub decreases-loop-k : goal.decreases-loop-k
-decreases-loop-k l = length l.d - l.k
+abbrev pub decreases-loop-x : goal.decreases-loop-x
+decreases-loop-x l = length l.d - l.x-index

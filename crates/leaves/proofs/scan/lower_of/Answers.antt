@@ -7,6 +7,6 @@ pub returns-then-p : goal.returns-then-p
 unfolding lower_of
 returns-then-p c = rw (le-leb c.args.p.j c.args.p.i (omega arith))
 
-pub returns : goal.returns
+pub returns-else-p : goal.returns-else-p
 unfolding lower_of
-returns c = rw (lt-leb c.args.p.j c.args.p.i (omega arith))
+returns-else-p c = rw (lt-leb c.args.p.j c.args.p.i (omega arith))

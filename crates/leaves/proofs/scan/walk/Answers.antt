@@ -1,7 +1,6 @@
-use mathlib.Core.Path.{◌∙◌, refl, ap}
+use mathlib.Core.Path.{refl, ap}
 use native.Mathlib.Omega.{arith}
 use lib.ListN.{length}
-use Rattle.leaves.specs.Scan.{class_of}
 use Rattle.grid.specs.Real.{at}
 use Rattle.leaves.proofs.scan.Search.{left_more, found_here, found_none}
 use Rattle.std.proofs.Common.{not}
@@ -11,10 +10,10 @@ pub loop-k-init : goal.loop-k-init
 loop-k-init c = (omega arith, refl)
 
 pub returns-then-not-is_finite : goal.returns-then-not-is_finite
-returns-then-not-is_finite c = found_here (at c.args.d.now) c.loop-k.k (length c.args.d.now) (omega arith) (rw (← c.at1-x.ensures, ← c.is_finite.ensures) (ap not c.if-not-is_finite.true)) (c.class_of.ensures ∙ ap class_of c.at1-x.ensures) c.loop-k.invariant.1
+returns-then-not-is_finite c = found_here (at c.args.d.now) c.loop-k.k (length c.args.d.now) (omega arith) (rw (← c.is_finite.ensures) (ap not c.if-not-is_finite.true)) c.class_of.ensures c.loop-k.invariant.1
 
 pub loop-k-preserved : goal.loop-k-preserved
-loop-k-preserved c = (omega arith, left_more (at c.args.d.now) c.loop-k.k (length c.args.d.now) (omega arith) (rw (← c.at1-x.ensures, ← c.is_finite.ensures) (ap not c.if-not-is_finite.false)) c.loop-k.invariant.1)
+loop-k-preserved c = (omega arith, left_more (at c.args.d.now) c.loop-k.k (length c.args.d.now) (omega arith) (rw (← c.is_finite.ensures) (ap not c.if-not-is_finite.false)) c.loop-k.invariant.1)
 
 pub returns : goal.returns
 returns c = found_none (at c.args.d.now) c.loop-k.k (length c.args.d.now) (omega arith) c.loop-k.invariant.1

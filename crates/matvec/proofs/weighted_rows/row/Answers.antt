@@ -3,10 +3,10 @@ use Rattle.grid.specs.LoopLaws.{start, next, done}
 use Rattle.matvec.proofs.weighted_rows.row.Goals as goal
 
 pub loop-k-init : goal.loop-k-init
-loop-k-init c = (omega arith, start _ _ _)
+loop-k-init c = start _ _ _
 
 pub loop-k-preserved : goal.loop-k-preserved
-loop-k-preserved c = (omega arith, next _ _ _ _ (omega arith) c.loop-k.invariant.1 (rw (← c.entry.ensures)))
+loop-k-preserved c = next _ _ _ _ (omega arith) c.loop-k.invariant (rw (← c.entry.ensures))
 
 pub returns : goal.returns
-returns c = done _ _ _ (omega arith) (omega arith) c.loop-k.invariant.1
+returns c = done _ _ _ (omega arith) (omega arith) c.loop-k.invariant

@@ -1,19 +1,6 @@
-use native.Mathlib.Omega.{arith}
-use lib.ListN.{length-set}
-use Rattle.octets.proofs.StoreLaws.{four_put}
+use Rattle.std.proofs.Common.{ℕ, List, ◌∙◌, ap, take, drop}
+use Rattle.octets.proofs.StoreLaws.{copied}
 use Rattle.octets.proofs.write.put_four.Goals as goal
 
-pub bounds-out-at-2 : goal.bounds-out-at-2
-bounds-out-at-2 c = simp length-set (omega arith)
-
-pub bounds-out-at-3 : goal.bounds-out-at-3
-bounds-out-at-3 c = simp length-set (omega arith)
-
-pub bounds-out-at-4 : goal.bounds-out-at-4
-bounds-out-at-4 c = simp length-set (omega arith)
-
-pub shape_of-out : goal.shape_of-out
-shape_of-out c = simp length-set
-
 pub returns : goal.returns
-returns c = four_put c.args.out.now c.args.at c.args.x
+returns c = copied c.args.out.now _ c.args.at 4 c.args.x c.requires (c.copy_from_slice.ensures.after ∙ ap (λ (l : List ℕ). take 4 (drop 4 l)) c.to_be_bytes.ensures)

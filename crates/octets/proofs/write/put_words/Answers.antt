@@ -1,14 +1,14 @@
-use mathlib.Core.Path.{refl}
-use Prim.Native.Nat.{◌-◌}
-use native.Mathlib.Omega.{arith}
-use Rattle.octets.proofs.StoreLaws.{words_none, words_more, words_whole}
+use Rattle.std.proofs.Common.{◌∙◌, map, ap}
+use Rattle.std.proofs.lemmas.List.{length-map}
+use Rattle.octets.proofs.StoreLaws.{words_none, words_more, map_at}
 use Rattle.octets.proofs.write.put_words.Goals as goal
 
 pub loop-i-init : goal.loop-i-init
-loop-i-init c = (omega arith, refl, words_none _ _ c.args.words.now)
+loop-i-init g c = words_none _ _ (map g.W.Word.word c.args.words.now)
 
 pub loop-i-preserved : goal.loop-i-preserved
-loop-i-preserved c = (omega arith, omega arith, words_more c.args.out.now c.loop-i.out c.put_eight.new.out c.args.at c.loop-i.i _ c.args.words.now c.loop-i-test.true refl c.loop-i.invariant.2 c.put_eight.ensures)
-
-pub returns : goal.returns
-returns c = words_whole c.args.out.now c.loop-i.out c.args.at c.loop-i.i c.args.words.now c.loop-i-test.false c.loop-i.invariant.2
+loop-i-preserved g c =
+    let ws = c.args.words.now in
+    let f = g.W.Word.word in
+    words_more c.args.out.now c.loop-i.out c.put_eight.new.out c.args.at c.loop-i.i _ (map f ws) (rw (length-map ws f) c.loop-i-test.true)
+    (c.word.ensures ∙ ap f c.index-words-i.is ∙ map_at f ws c.loop-i.i _ 0 c.loop-i-test.true) c.loop-i.invariant c.put_eight.ensures

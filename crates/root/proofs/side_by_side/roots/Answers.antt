@@ -1,11 +1,11 @@
-use Rattle.std.proofs.Common.{◌≡◌, Bool, true, not, ◌&&◌, T, sym, subst}
-use lib.Ieee.{Float, nan, inf, fin, binary64, is_nan, fits, of_bits, to_bits}
+use Rattle.std.proofs.Common.{◌≡◌, Bool, true, ◌&&◌, T, sym, subst}
+use lib.Ieee.{Float, binary64, fits, of_bits, to_bits}
 use lib.Ieee.Fits.{and_l, and_r}
 use lib.Ieee.Positive.{positive}
 use Rattle.root.specs.Root.{root}
 use Rattle.root.specs.Parts.{root_bits}
 use Rattle.root.specs.Nearest.{Nearest}
-use Rattle.root.specs.declared.side_by_side.RootPair.{RootPair}
+use Rattle.root.proofs.Cases.{no_nan}
 use Rattle.root.proofs.Nearest.{root_nearest}
 use Rattle.root.proofs.Rounds.{root_is}
 use Rattle.root.proofs.Worked.{pattern}
@@ -14,19 +14,13 @@ use Rattle.root.proofs.side_by_side.roots.Goals as goal
 both : (a b : Bool) (x y : Float) → a ≡ positive x → b ≡ positive y → (a && b) ≡ true → T (positive x) × T (positive y)
 both a b x y e f h = rw (← e, ← f) (and_l a b (subst T (sym h) tt), and_r a b (subst T (sym h) tt))
 
-no_nan : (x : Float) → T (positive x) → T (not (is_nan x))
-unfolding is_nan
-no_nan nan p = absurd p
-no_nan (inf s) p = tt
-no_nan (fin s m e) p = tt
-
-by_bits : (x y : Float) (r : RootPair) → T (fits binary64 x) → T (fits binary64 y) → T (positive x) × T (positive y)
-    → r ≡ record { first = of_bits binary64 (root_bits (to_bits binary64 x)); second = of_bits binary64 (root_bits (to_bits binary64 y)) } → r ≡ record { first = root x; second = root y }
+by_bits : (x y : Float) (r : Float × Float) → T (fits binary64 x) → T (fits binary64 y) → T (positive x) × T (positive y)
+    → r ≡ (of_bits binary64 (root_bits (to_bits binary64 x)), of_bits binary64 (root_bits (to_bits binary64 y))) → r ≡ (root x, root y)
 by_bits x y r f g p e = rw (root_is x f p.0, root_is y g p.1) e
 
 -- the second clause follows from the first
-nearest : (x y : Float) (r : RootPair) → T (fits binary64 x) → T (fits binary64 y) → r ≡ record { first = root x; second = root y }
-    → (r ≡ record { first = root x; second = root y }) × ((T (positive x) → Nearest x r.first) × (T (positive y) → Nearest y r.second))
+nearest : (x y : Float) (r : Float × Float) → T (fits binary64 x) → T (fits binary64 y) → r ≡ (root x, root y)
+    → (r ≡ (root x, root y)) × ((T (positive x) → Nearest x r.0) × (T (positive y) → Nearest y r.1))
 nearest x y r f g e = (e, (λ p. rw e (root_nearest x f p), λ p. rw e (root_nearest y g p)))
 
 pub float_to_bits-x : goal.float_to_bits-x
@@ -49,5 +43,5 @@ returns-then-positive c = let f = subst T (sym c.well_formed.0.1) tt in
 
 pub returns : goal.returns
 returns c =
-    let w = nearest c.args.x c.args.y (record { first = c.root.result; second = c.root-2.result }) (subst T (sym c.well_formed.0.1) tt) (subst T (sym c.well_formed.1.0.1) tt) (rw (c.root.ensures.value, c.root-2.ensures.value)) in
+    let w = nearest c.args.x c.args.y (c.root.result, c.root-2.result) (subst T (sym c.well_formed.0.1) tt) (subst T (sym c.well_formed.1.0.1) tt) (rw (c.root.ensures.value, c.root-2.ensures.value)) in
     record { value = w.0; nearest = w.1 }

@@ -1,5 +1,4 @@
-use mathlib.Core.Path.{◌∙◌, refl}
-use Prim.Native.Nat.{◌-◌}
+use mathlib.Core.Path.{◌∙◌}
 use native.Mathlib.Omega.{arith}
 use Rattle.grid.specs.LoopLaws.{start, next, done}
 use Rattle.grid.specs.Real.{◌⊕◌, ◌⊗◌}
@@ -8,10 +7,10 @@ use Rattle.grid.specs.TableLaws.{each}
 use Rattle.solve.proofs.solution.add_row.Goals as goal
 
 pub loop-j-init : goal.loop-j-init
-loop-j-init c = (omega arith, refl, start _ _ _)
+loop-j-init c = start _ _ _
 
 pub loop-j-preserved : goal.loop-j-preserved
-loop-j-preserved c = (omega arith, omega arith, next _ _ _ _ (omega arith) c.loop-j.invariant.2 (rw (← c.at1.ensures, ← c.entry.ensures, ← c.put1.ensures)))
+loop-j-preserved c = next _ _ _ _ (omega arith) c.loop-j.invariant (rw (← c.entry.ensures))
 
 pub returns : goal.returns
-returns c = done _ _ _ (omega arith) (omega arith) c.loop-j.invariant.2 ∙ each (λ j x. x ⊕ entry c.args.a.now c.args.cols c.args.i j ⊗ c.args.by) c.args.acc.now c.args.cols c.requires.2
+returns c = done _ _ _ (omega arith) (omega arith) c.loop-j.invariant ∙ each (λ j x. x ⊕ entry c.args.a.now c.args.cols c.args.i j ⊗ c.args.by) c.args.acc.now c.args.cols c.requires.2

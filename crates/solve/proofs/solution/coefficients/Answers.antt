@@ -1,5 +1,4 @@
-use mathlib.Core.Path.{◌∙◌, refl}
-use Prim.Native.Nat.{◌-◌}
+use mathlib.Core.Path.{◌∙◌}
 use native.Mathlib.Omega.{arith}
 use Rattle.grid.specs.LoopLaws.{start, next, done}
 use Rattle.grid.specs.Real.{at}
@@ -8,10 +7,10 @@ use Rattle.solve.specs.Solution.{coefficient}
 use Rattle.solve.proofs.solution.coefficients.Goals as goal
 
 pub loop-k-init : goal.loop-k-init
-loop-k-init c = (omega arith, refl, start _ _ _)
+loop-k-init c = start _ _ _
 
 pub loop-k-preserved : goal.loop-k-preserved
-loop-k-preserved c = (omega arith, omega arith, next _ _ _ _ (omega arith) c.loop-k.invariant.2 (rw (← c.at1.ensures, ← c.at1-in-loop-k.ensures, ← c.coefficient.ensures, ← c.put1.ensures)))
+loop-k-preserved c = next _ _ _ _ (omega arith) c.loop-k.invariant (rw (← c.coefficient.ensures))
 
 pub returns : goal.returns
-returns c = done _ _ _ (omega arith) (omega arith) c.loop-k.invariant.2 ∙ each (λ k x. coefficient c.args.tolerance (at c.args.s.now k) x) c.args.c.now c.args.r c.requires.1
+returns c = done _ _ _ (omega arith) (omega arith) c.loop-k.invariant ∙ each (λ k x. coefficient c.args.tolerance (at c.args.s.now k) x) c.args.c.now c.args.r c.requires.1

@@ -1,5 +1,4 @@
-use mathlib.Core.Path.{◌∙◌, refl, ap}
-use Prim.Native.Nat.{◌-◌}
+use mathlib.Core.Path.{◌∙◌, ap}
 use native.Mathlib.Omega.{arith}
 use Rattle.grid.specs.TableLaws.{turns, turns_none, turns_more}
 use Rattle.solve.specs.Solution.{column_sum}
@@ -9,11 +8,11 @@ use Rattle.grid.specs.Cell.{entry}
 use Rattle.solve.proofs.solution.column_sums.Goals as goal
 
 pub loop-i-init : goal.loop-i-init
-loop-i-init c = (omega arith, refl, c.fill.ensures ∙ rw c.requires.2 (turns_none _ _))
+loop-i-init c = c.fill.ensures ∙ rw c.requires.2 (turns_none _ _)
 
 pub loop-i-preserved : goal.loop-i-preserved
-loop-i-preserved c = (omega arith, omega arith, turns_more _ _ _ c.loop-i.invariant.2 (c.add_row.ensures ∙ rw c.at1.ensures))
+loop-i-preserved c = turns_more _ _ _ c.loop-i.invariant c.add_row.ensures
 
 pub returns : goal.returns
 unfolding turns column_sum
-returns c = c.loop-i.invariant.2 ∙ ap (turns (λ j i acc. acc ⊕ entry c.args.a.now c.args.cols i j ⊗ at c.args.v.now i) c.args.cols) (le_antisymm c.loop-i.invariant.0 c.loop-i-test.false)
+returns c = c.loop-i.invariant ∙ ap (turns (λ j i acc. acc ⊕ entry c.args.a.now c.args.cols i j ⊗ at c.args.v.now i) c.args.cols) (le_antisymm (omega arith) c.loop-i-test.false)

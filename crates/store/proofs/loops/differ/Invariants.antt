@@ -1,10 +1,6 @@
-use Prim.Native.Nat.{◌≤◌}
-use lib.ListN.{length}
+use Rattle.std.proofs.Common.{◌-◌, length}
 use Rattle.store.specs.BitLaws.{Seen}
 use Rattle.store.proofs.loops.differ.Given as goal
 
-abbrev pub invariant-loop-i : goal.invariant-loop-i
-invariant-loop-i l = (l.i ≤ length l.s) × Seen l.s l.seen l.i
-
-abbrev pub decreases-loop-i : goal.decreases-loop-i
-decreases-loop-i l = l.i
+abbrev pub invariant-loop-t : goal.invariant-loop-t
+invariant-loop-t l = Seen l.s l.seen (length l.s - length l.yielded)

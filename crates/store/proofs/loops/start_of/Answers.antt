@@ -1,20 +1,14 @@
--- The loop keeps: the sum so far is where block i starts.
-use mathlib.Core.Path.{◌∙◌, sym, ap}
-use Prim.Native.Nat.{ℕ, ◌+◌, ◌-◌}
-use native.Mathlib.Omega.{arith}
-use Rattle.store_definition.specs.Store.{start_of, length_at}
-use Rattle.store_definition.specs.StartLaws.{start_none, start_more, start_below}
-use native.Mathlib.Nat.{le_antisymm}
+use Rattle.std.proofs.Common.{rules, ◌<◌, ◌≡◌, ◌^◌, sym, ◌∙◌, arith}
+use Rattle.std.specs.List.{sum as total}
+use Rattle.store.specs.LoopLaws.{lengths, start_is}
 use Rattle.store.proofs.loops.start_of.Goals as goal
 
-pub loop-i-init : goal.loop-i-init
-loop-i-init c = (omega arith, sym (start_none c.args.list.now))
-
-pub overflow_add-t-in-loop-i : goal.overflow_add-t-in-loop-i
-overflow_add-t-in-loop-i c = omega (arith, c.loop-i.invariant, start_more c.args.list.now c.loop-i.i (omega arith), start_below c.args.list.now (c.loop-i.i + 1) c.args.k (omega arith))
-
-pub loop-i-preserved : goal.loop-i-preserved
-loop-i-preserved c = (omega arith, ap (λ (x : ℕ). x + length_at c.args.list.now c.loop-i.i) c.loop-i.invariant.1 ∙ sym (start_more c.args.list.now c.loop-i.i (omega arith)))
+pub sum-requires-clause-fits : goal.sum-requires-clause-fits
+sum-requires-clause-fits c =
+    let h : total (lengths c.args.list.now c.args.k) < 2 ^ 64 = omega (arith, start_is c.args.list.now c.args.k) in
+    search rules
 
 pub returns : goal.returns
-returns c = c.loop-i.invariant.1 ∙ ap (start_of c.args.list.now) (le_antisymm c.loop-i.invariant.0 (omega arith))
+returns c =
+    let e : c.sum.result ≡ total (lengths c.args.list.now c.args.k) = search rules in
+    e ∙ sym (start_is c.args.list.now c.args.k)

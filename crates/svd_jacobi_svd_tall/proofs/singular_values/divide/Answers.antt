@@ -5,11 +5,11 @@ use Rattle.svd_jacobi_svd_tall.specs.SingularValues.{divided}
 use Rattle.svd_jacobi_svd_tall.proofs.singular_values.divide.Goals as goal
 
 pub loop-i-init : goal.loop-i-init
-loop-i-init c = (omega arith, refl, start _ _ _)
+loop-i-init c = start _ _ _
 
 pub loop-i-preserved : goal.loop-i-preserved
-loop-i-preserved c = (omega arith, omega arith, next _ _ _ _ (omega arith) c.loop-i.invariant.2 (rw (← c.at1.ensures, ← c.put1.ensures)))
+loop-i-preserved c = next _ _ _ _ (omega arith) c.loop-i.invariant refl
 
 pub returns : goal.returns
 unfolding divided
-returns c = done _ _ _ (omega arith) (omega arith) c.loop-i.invariant.2
+returns c = done _ _ _ (omega arith) (omega arith) c.loop-i.invariant

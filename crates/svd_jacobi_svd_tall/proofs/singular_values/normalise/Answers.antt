@@ -5,11 +5,11 @@ use Rattle.svd_jacobi_svd_tall.specs.SingularValues.{normalised}
 use Rattle.svd_jacobi_svd_tall.proofs.singular_values.normalise.Goals as goal
 
 pub loop-j-init : goal.loop-j-init
-loop-j-init c = (omega arith, search rules, start _ _ _)
+loop-j-init c = (search rules, start _ _ _)
 
 pub loop-j-preserved : goal.loop-j-preserved
-loop-j-preserved c = (omega arith, search rules, next _ _ _ _ (omega arith) c.loop-j.invariant.2 c.normalise_column.ensures)
+loop-j-preserved c = (search rules, next _ _ _ _ (omega arith) c.loop-j.invariant.1 c.normalise_column.ensures)
 
 pub returns : goal.returns
 unfolding normalised
-returns c = done _ _ _ (omega arith) (omega arith) c.loop-j.invariant.2
+returns c = done _ _ _ (omega arith) (omega arith) c.loop-j.invariant.1

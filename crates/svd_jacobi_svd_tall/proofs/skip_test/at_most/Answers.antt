@@ -9,6 +9,3 @@ returns-then-surely_not c = sym (settled_not _ _ _ (mul-fits binary64 _ _) (mul-
 
 pub returns-then-surely : goal.returns-then-surely
 returns-then-surely c = sym (settled _ _ _ (mul-fits binary64 _ _) (mul-fits binary64 _ _) (sym c.surely.ensures ∙ c.if-surely.true))
-
-pub returns : goal.returns
-returns c = rw (← c.root.ensures.value)

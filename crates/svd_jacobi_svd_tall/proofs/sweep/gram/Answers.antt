@@ -4,11 +4,11 @@ use Rattle.svd_jacobi_svd_tall.specs.Sweep.{gram}
 use Rattle.svd_jacobi_svd_tall.proofs.sweep.gram.Goals as goal
 
 pub loop-i-init : goal.loop-i-init
-loop-i-init c = (omega arith, start _ _ _)
+loop-i-init c = start _ _ _
 
 pub loop-i-preserved : goal.loop-i-preserved
-loop-i-preserved c = (omega arith, next _ _ _ _ (omega arith) c.loop-i.invariant.1 (rw (← c.at1-up.ensures, ← c.at1-uq.ensures)))
+loop-i-preserved c = next _ _ _ _ (omega arith) c.loop-i.invariant c.and-x.ensures
 
 pub returns : goal.returns
 unfolding gram
-returns c = done _ _ _ (omega arith) (omega arith) c.loop-i.invariant.1
+returns c = done _ _ _ (omega arith) (omega arith) c.loop-i.invariant

@@ -1,5 +1,5 @@
 use mathlib.Core.Path.{◌≡◌}
-use Prim.Native.Nat.{◌+◌, ◌-◌, ◌≤◌}
+use Prim.Native.Nat.{◌+◌, ◌≤◌}
 use mathlib.Core.Bool.{Bool}
 use Rattle.grid.specs.Real.{Vec}
 use Rattle.svd_jacobi_svd_tall.specs.Sweep.{pair_done}
@@ -10,6 +10,3 @@ use Rattle.svd_jacobi_svd_tall.proofs.sweep.two_rows_but_last.Given as goal
 abbrev pub invariant-loop-q : goal.invariant-loop-q
 invariant-loop-q l = (l.p + 3 ≤ l.q) × (l.q ≤ l.cols) × Sized l.rows l.cols l.w
     × ((x : Bool × Vec) → (l.initial.changed, l.initial.w) ≡ pair_done l.rows l.cols l.p (l.p + 2) (pair_done l.rows l.cols l.p (l.p + 1) x) → (l.changed, l.w) ≡ both_to l.rows l.cols l.p l.q x)
-
-abbrev pub decreases-loop-q : goal.decreases-loop-q
-decreases-loop-q l = l.cols - l.q

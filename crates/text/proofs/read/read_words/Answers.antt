@@ -30,8 +30,8 @@ unfolding words_read
 returns-then-not-groups_good c = rw (eq-eqb _ _ c.if-t-from.false, ← c.groups_good.ensures, not-true c.groups_good.result (ap not c.if-not-groups_good.true))
 
 pub fill-requires : goal.fill-requires
-fill-requires c = (omega arith, mul-le-mul c.requires.1 c.requires.1, sym c.groups_good.ensures ∙ not-false c.groups_good.result (ap not c.if-not-groups_good.false))
+fill-requires c = (omega arith, mul-le-mul c.requires.1 c.requires.1, refl, sym c.groups_good.ensures ∙ not-false c.groups_good.result (ap not c.if-not-groups_good.false))
 
 pub returns : goal.returns
 unfolding words_read
-returns c = rw (eq-eqb _ _ c.if-t-from.false, ← c.groups_good.ensures, not-false c.groups_good.result (ap not c.if-not-groups_good.false)) (rw (c.fill.ensures, table_map float (λ k. word_at c.args.t.now (c.args.from + 17 * k)) (c.args.n * c.args.n)))
+returns c = rw (eq-eqb _ _ c.if-t-from.false, ← c.groups_good.ensures, not-false c.groups_good.result (ap not c.if-not-groups_good.false)) (rw (c.fill.ensures, table_map float (λ k. word_at c.args.t.now (c.args.head.next + 17 * k)) (c.args.head.n * c.args.head.n)))

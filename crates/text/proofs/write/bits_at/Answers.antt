@@ -1,18 +1,16 @@
-use mathlib.Core.Path.{◌≡◌, ◌∙◌, refl, sym, ap}
-use lib.Ieee.{nan, is_nan}
-use lib.ListN.{get_or-eq_default}
+use Rattle.std.proofs.Common.{rules, ◌≡◌, ◌∙◌, ap, refl}
+use Rattle.std.specs.Prelude.{Float, get_or}
+use lib.Ieee.{binary64, nan, of_bits}
 use Rattle.text.specs.Writing.{bits_at}
 use Rattle.octets.specs.Bits.{bits}
 use Rattle.text.proofs.write.bits_at.Goals as goal
 
-nan-bits : 0x7ff8_0000_0000_0000 ≡ bits nan
-unfolding bits is_nan
-nan-bits = refl
+nan_is : of_bits binary64 0x7ff8_0000_0000_0000 ≡ nan
+unfolding of_bits
+nan_is = refl
 
-pub returns-then-k-res : goal.returns-then-k-res
+pub returns : goal.returns
 unfolding bits_at
-returns-then-k-res c = c.bits.ensures
-
-pub returns-else-k-res : goal.returns-else-k-res
-unfolding bits_at
-returns-else-k-res c = nan-bits ∙ ap bits (sym (get_or-eq_default c.args.res.now nan c.if-k-res.false))
+returns c =
+    let e : c.unwrap_or.result ≡ get_or c.args.res.now c.args.k (of_bits binary64 0x7ff8_0000_0000_0000) = search rules in
+    c.bits.ensures ∙ ap bits (e ∙ ap (λ (x : Float). get_or c.args.res.now c.args.k x) nan_is)

@@ -9,14 +9,14 @@ use Rattle.text.proofs.write.put_answer.Goals as goal
 place : {k m : ℕ} {l o : List ℕ} → ◌≡◌ {A = ℕ × List ℕ} (k, l) (m, o) → k ≡ m
 place e = ap (λ (s : ℕ × List ℕ). s.0) e
 
-pub put_number-b-requires : goal.put_number-b-requires
-put_number-b-requires c = omega (arith, place c.put_number-a.ensures, number_most c.args.answer 32)
+pub put_number-at-requires-2 : goal.put_number-at-requires-2
+put_number-at-requires-2 c = omega (arith, place c.put_number-at.ensures, number_most c.args.a.answer 32)
 
-pub put_number-c-requires : goal.put_number-c-requires
-put_number-c-requires c = omega (arith, place c.put_number-a.ensures, place c.put_number-b.ensures, number_most c.args.answer 32, number_most c.args.place 32)
+pub put_number-at-requires-3 : goal.put_number-at-requires-3
+put_number-at-requires-3 c = omega (arith, place c.put_number-at.ensures, place c.put_number-at-2.ensures, number_most c.args.a.answer 32, number_most c.args.a.place 32)
 
 pub put_number-requires : goal.put_number-requires
-put_number-requires c = omega (arith, place c.put_number-a.ensures, place c.put_number-b.ensures, place c.put_number-c.ensures, number_most c.args.answer 32, number_most c.args.place 32, number_most c.args.index 32)
+put_number-requires c = omega (arith, place c.put_number-at.ensures, place c.put_number-at-2.ensures, place c.put_number-at-3.ensures, number_most c.args.a.answer 32, number_most c.args.a.place 32, number_most c.args.a.index 32)
 
 pub returns : goal.returns
-returns c = append_then (0, c.args.out.now) (c.put_number-c.result, c.put_number-c.new.out) (c.put_number.result, c.put_number.new.out) (number c.args.answer 32 ++ number c.args.place 32 ++ number c.args.index 32) (number c.args.count 10) (append_then (0, c.args.out.now) (c.put_number-b.result, c.put_number-b.new.out) (c.put_number-c.result, c.put_number-c.new.out) (number c.args.answer 32 ++ number c.args.place 32) (number c.args.index 32) (append_then (0, c.args.out.now) (c.put_number-a.result, c.put_number-a.new.out) (c.put_number-b.result, c.put_number-b.new.out) (number c.args.answer 32) (number c.args.place 32) c.put_number-a.ensures c.put_number-b.ensures) c.put_number-c.ensures) c.put_number.ensures
+returns c = append_then (0, c.args.out.now) (c.put_number-at-3.result, c.put_number-at-3.new.out) (c.put_number.result, c.put_number.new.out) (number c.args.a.answer 32 ++ number c.args.a.place 32 ++ number c.args.a.index 32) (number c.args.a.count 10) (append_then (0, c.args.out.now) (c.put_number-at-2.result, c.put_number-at-2.new.out) (c.put_number-at-3.result, c.put_number-at-3.new.out) (number c.args.a.answer 32 ++ number c.args.a.place 32) (number c.args.a.index 32) (append_then (0, c.args.out.now) (c.put_number-at.result, c.put_number-at.new.out) (c.put_number-at-2.result, c.put_number-at-2.new.out) (number c.args.a.answer 32) (number c.args.a.place 32) c.put_number-at.ensures c.put_number-at-2.ensures) c.put_number-at-3.ensures) c.put_number.ensures

@@ -2,17 +2,11 @@ use native.Mathlib.Omega.{arith}
 use Rattle.text.specs.Stores.{places_most, number_put}
 use Rattle.text.proofs.write.put_number.Goals as goal
 
-pub places-k-requires : goal.places-k-requires
-places-k-requires c = tt
-
 pub spell-requires : goal.spell-requires
 spell-requires c = omega (arith, places_most c.args.n, c.places-k.ensures)
 
 pub overflow_add-at : goal.overflow_add-at
 overflow_add-at c = omega (arith, places_most c.args.n, c.places-k.ensures)
-
-pub put-requires : goal.put-requires
-put-requires c = tt
 
 pub overflow_add-result : goal.overflow_add-result
 overflow_add-result c = omega (arith, places_most c.args.n, c.places-k.ensures)

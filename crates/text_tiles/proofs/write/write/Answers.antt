@@ -11,8 +11,8 @@ use Rattle.text_tiles.proofs.write.write.Goals as goal
 behind : {k m : ℕ} {l o : List ℕ} → ◌≡◌ {A = ℕ × List ℕ} (k, l) (m, o) → k ≡ m
 behind e = ap (λ (s : ℕ × List ℕ). s.0) e
 
-pub put_end-requires : goal.put_end-requires
-put_end-requires c = omega (arith, behind c.put_figures-at.ensures, figures_short c.args.t 20)
+pub put_all-requires : goal.put_all-requires
+put_all-requires c = omega (arith, behind c.put_figures-at.ensures, figures_short c.args.t 20)
 
 pub returns : goal.returns
-returns c = append_then (0, c.args.out.now) (c.put_figures-at.result, c.put_figures-at.new.out) (c.put_end.result, c.put_end.new.out) (joined (figure_line c.args.t) 20) end_text c.put_figures-at.ensures c.put_end.ensures ∙ append_front c.args.out.now (joined (figure_line c.args.t) 20 ++ end_text)
+returns c = append_then (0, c.args.out.now) (c.put_figures-at.result, c.put_figures-at.new.out) (c.put_all.result, c.put_all.new.out) (joined (figure_line c.args.t) 20) end_text c.put_figures-at.ensures c.put_all.ensures ∙ append_front c.args.out.now (joined (figure_line c.args.t) 20 ++ end_text)

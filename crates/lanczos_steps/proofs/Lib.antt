@@ -1,0 +1,2 @@
+-- Lemmas of the proofs: the loop over the steps.
+mod Loop

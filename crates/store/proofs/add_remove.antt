@@ -1,2 +1,0 @@
--- What a removal comes to.
-pub mod Removed

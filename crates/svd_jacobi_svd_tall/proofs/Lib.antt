@@ -1,0 +1,2 @@
+-- One sweep of a run by what it finds.
+mod Swept
