@@ -1,10 +1,9 @@
 -- What the checks leave where they pass, and that a sum is far below 2^53. Laws only.
 use Rattle.std.specs.Prelude.{◌≡◌, false, ◌⊎◌, ℕ, suc, ◌*◌, ◌≤◌, Float, ℤ, pos, negsuc}
-use Rattle.std.proofs.Common.{ap, ◌∙◌, le_trans, arith}
+use Rattle.std.proofs.Common.{ap, sym, ◌∙◌, le_trans, arith}
 use borrow.Author.Tests.{le-ltb}
 use Rattle.std.specs.Float.{binary64}
 use Rattle.std.specs.Float.Ieee.{of_int}
-use Rattle.answers.specs.Answers.{done}
 use Rattle.answers.specs.declared.Answer.{Answer}
 use Rattle.answers.specs.Checks.{lengths}
 use Rattle.answers.specs.ChecksLaws.{lengths_right, lengths_few}
@@ -28,9 +27,9 @@ module _ (n N s o : ℕ) where
       let w = lengths_right s (n * N) o n 0 0 b.1 in
       record { bands = b.0.bands; most = b.0.most; planes = w.0; places = w.1 }
 
-  pub sized : sum_checks n N s o ≡ done 0 → (n ≤ 256) × (N ≤ 65536) × (s ≡ n * N) × (o ≡ n)
-  sized e =
-      let z = checked (ap (λ (a : Answer). a.answer) e) in
+  pub sized : {r : Answer} → r ≡ sum_checks n N s o → r.answer ≡ 0 → (n ≤ 256) × (N ≤ 65536) × (s ≡ n * N) × (o ≡ n)
+  sized e h =
+      let z = checked (ap (λ (a : Answer). a.answer) (sym e) ∙ h) in
       (z.bands, z.most, z.planes, z.places)
 
   -- a check answers 0 to 6, or 25

@@ -13,7 +13,10 @@ use leaves::scan::{behind, first_bad_cell};
 pub fn mark0(n: usize, v: &[f64], d: &[f64], e: &[f64]) -> Option<Bad>
     ensures { result ≡ mark0 n v.now d.now e.now }
 {
-    mark1(d, e).or(behind(d.len() + e.len(), first_bad_cell(n, v)))
+    match mark1(d, e) {
+        Some(bad) => Some(bad),
+        None => behind(d.len() + e.len(), first_bad_cell(n, v)),
+    }
 }
 
 // The run after `tred2`.

@@ -13,7 +13,10 @@ use leaves::scan::{behind, first_bad, first_bad_cell};
 fn mark2(n: usize, v: &[f64], d: &[f64]) -> Option<Bad>
     ensures { result ≡ mark2 n v.now d.now }
 {
-    first_bad(d).or(behind(d.len(), first_bad_cell(n, v)))
+    match first_bad(d) {
+        Some(bad) => Some(bad),
+        None => behind(d.len(), first_bad_cell(n, v)),
+    }
 }
 
 // The answer of a run, and the sort where it is done.

@@ -58,7 +58,10 @@ pub fn first_bad(d: &[f64]) -> Option<Bad>
 pub fn first_bad_of_both(d: &[f64], e: &[f64]) -> Option<Bad>
     ensures { result ≡ first_bad (d.now ++ e.now) }
 {
-    first_bad(d).or(behind(d.len(), first_bad(e)))
+    match first_bad(d) {
+        Some(bad) => Some(bad),
+        None => behind(d.len(), first_bad(e)),
+    }
 }
 
 // The place after p, row by row, where n are in a row.

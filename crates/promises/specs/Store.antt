@@ -1,7 +1,10 @@
 -- What is proved of the store of one owner. Laws only.
-use Rattle.std.specs.Prelude.{true, List, [], ◌∷◌, ◌≡◌, ◌≤◌, ℕ, length}
+use Rattle.std.specs.Prelude.{true, List, [], ◌∷◌, ◌≡◌, ◌≤◌, ℕ, length, ⊤, Result}
 use Rattle.answers.specs.Answers.{done, refused}
 use Rattle.answers.specs.declared.Answer.{Answer}
+use Rattle.store.proofs.RefusalLaws.{counted_one, verdict_one}
+use Rattle.store.specs.Refusals.{counted, verdict}
+use Rattle.store.specs.declared.refusal.StoreRefusal.{StoreRefusal}
 use Rattle.store_definition.proofs.Worked.{looked, worked}
 use Rattle.store_definition.specs.Calls.{Arrays, Call, Do, Drop, Event, Fetch, Length, Put, Reset, map_call, map_of, map_step, run, store_call, store_step}
 use Rattle.store_definition.specs.OneOutcome.{drop_one, fetch_one, length_one, put_one, set_up_one}
@@ -32,6 +35,14 @@ t2_fetch_one = fetch_one
 pub t2_drop_one : (entries : ℕ) (list tiles bytes : List ℕ) → (t : ℕ) (o p : Outcome) → o ≡ drop_of entries list tiles bytes t
     → p ≡ drop_of entries list tiles bytes t → o ≡ p
 t2_drop_one = drop_one
+
+-- Two results of a set-up, a put, a fetch or a drop that come to one answer are one.
+pub t2_verdict_one : (x y : Result ⊤ StoreRefusal) → verdict x ≡ verdict y → x ≡ y
+t2_verdict_one = verdict_one
+
+-- Two results of a length that come to one answer are one.
+pub t2_counted_one : (x y : Result ℕ StoreRefusal) → counted x ≡ counted y → x ≡ y
+t2_counted_one = counted_one
 
 -- From a set-up over at most 65,536 bytes, whatever the arrays held, any list of calls and set-ups gives the answers and the bytes of a plain map from tile to bytes.
 pub t27_as_a_map : (entries : ℕ) (list tiles bytes : List ℕ) (small : length bytes ≤ 65536) (e : listed entries list tiles ≡ true) (es : List Event)

@@ -1,16 +1,21 @@
 -- What is proved of the tally. Laws only.
-use Rattle.std.specs.Prelude.{cond, List, [], ◌∷◌, ◌≡◌, ℕ, ltb, length}
+use Rattle.std.specs.Prelude.{cond, List, [], ◌∷◌, ◌≡◌, ℕ, ltb, length, Result}
 use Rattle.tally_definition.proofs.Worked.{edges, worked}
 use Rattle.tally_definition.proofs.Counted.{answered, counted, counted_taken, refused_stays, replied, taken_accepted}
 use Rattle.tally_definition.specs.Figures.{Tile, accepted, good}
-use Rattle.tally_definition.specs.OneOutcome.{tally_one}
+use Rattle.tally_definition.specs.OneOutcome.{reply_one, tally_one}
 use Rattle.tally_definition.specs.Series.{figures, series, taken_of}
-use Rattle.tally_definition.specs.Tallies.{Reply, none, outcome, refusal}
+use Rattle.tally_definition.specs.Tallies.{Reply, none, outcome, refusal, reply_of}
+use Rattle.tally_definition.specs.declared.Refusal.{Refusal}
 use Rattle.tally_definition.specs.declared.Tally.{Tally}
 
 -- Two outcomes of the call that adds a tile are one where they satisfy its promise.
 pub t2_tally_one : (t : Tally) (answer passes : ℕ) (o p : Reply) → o ≡ outcome t answer passes → p ≡ outcome t answer passes → o ≡ p
 t2_tally_one = tally_one
+
+-- Two results of adding a tile to one tally that come to one reply are one.
+pub t2_reply_one : (t : Tally) (x y : Result Tally Refusal) → reply_of t x ≡ reply_of t y → x ≡ y
+t2_reply_one = reply_one
 
 -- After any series of tiles each figure is the one counted from the list of those that were added.
 pub t32_counted : (s : List Tile) → series none s ≡ figures (accepted s)

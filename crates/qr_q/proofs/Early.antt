@@ -1,5 +1,5 @@
 -- A loop whose turns change nothing from some point on, and what the checks of `qr_q` leave.
-use mathlib.Core.Path.{◌≡◌, refl, sym, ap, subst}
+use mathlib.Core.Path.{◌≡◌, refl, sym, ap, ◌∙◌, subst}
 use mathlib.Core.Bool.{Bool, true, false, cond, ◌||◌}
 use Prim.Native.Nat.{ℕ, zero, suc, ◌+◌, ◌-◌, ◌*◌, ◌≤◌}
 use native.Mathlib.Omega.{arith}
@@ -22,9 +22,9 @@ module _ {S : Type 0} (f : ℕ → S → S) (a : ℕ) (s : S) {t : S} (kept : (j
   stays i b h l e = subst (λ (k : ℕ). t ≡ upto f a k s) (omega arith) (later (b - i) i h e)
 
 -- sizes and lengths are right where the checks refuse nothing
-pub sized : (m k a x : ℕ) → checks m k a x ≡ done 0 → (m ≤ 256) × (a ≡ m * k) × (x ≡ m * k)
+pub sized : (m k a x : ℕ) {r : Answer} → r ≡ checks m k a x → r.answer ≡ 0 → (m ≤ 256) × (a ≡ m * k) × (x ≡ m * k)
 unfolding checks lengths
-sized m k a x e = go (ltb 256 m) refl (ltb 256 k) (eqb a (m * k)) refl (eqb x (m * k)) refl (ap (λ (b : Answer). b.answer) e)
+sized m k a x e h = go (ltb 256 m) refl (ltb 256 k) (eqb a (m * k)) refl (eqb x (m * k)) refl (ap (λ (b : Answer). b.answer) (sym e) ∙ h)
   where
     go : (p : Bool) → ltb 256 m ≡ p → (q : Bool) (b : Bool) → eqb a (m * k) ≡ b → (c : Bool) → eqb x (m * k) ≡ c
         → (cond (p || q) (refused 1 0) (cond b (cond c (done 0) (refused 6 1)) (refused 6 0))).answer ≡ 0 → (m ≤ 256) × (a ≡ m * k) × (x ≡ m * k)

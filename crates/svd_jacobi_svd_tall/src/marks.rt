@@ -12,9 +12,10 @@ pub fn factors_bad(rows: usize, cols: usize, w: &[f64]) -> Option<Bad>
     ensures { result ≡ factors_bad rows cols w.now }
 {
     let v = rows * cols;
-    let u_bad = first_bad_cell(cols, &w[..v]);
-    let v_bad = first_bad_cell(cols, &w[v..v + cols * cols]);
-    u_bad.or(behind(v, v_bad))
+    match first_bad_cell(cols, &w[..v]) {
+        Some(bad) => Some(bad),
+        None => behind(v, first_bad_cell(cols, &w[v..v + cols * cols])),
+    }
 }
 
 // Mark 2: the values, then the factors.
@@ -23,6 +24,8 @@ pub fn all_bad(rows: usize, cols: usize, w: &[f64]) -> Option<Bad>
     ensures { result ≡ all_bad rows cols w.now }
 {
     let s = rows * cols + cols * cols;
-    let values_bad = first_bad(&w[s..s + cols]);
-    values_bad.or(behind(cols, factors_bad(rows, cols, w)))
+    match first_bad(&w[s..s + cols]) {
+        Some(bad) => Some(bad),
+        None => behind(cols, factors_bad(rows, cols, w)),
+    }
 }

@@ -48,8 +48,8 @@ fn in_range(answer: usize, passes: usize) -> bool
     answer <= 15 && passes <= 15360
 }
 
-// The tally with the tile, or why the tile is refused.
-pub fn added(mut t: Tally, answer: usize, passes: usize) -> Result<Tally, Refusal>
+// The tally with the tile, or why the tile is refused. It is made of its fields, since the C entry would copy a whole one, of 160 bytes, by memcpy.
+pub fn added(t: Tally, answer: usize, passes: usize) -> Result<Tally, Refusal>
     ensures { reply_of t result ≡ outcome t answer passes }
 {
     if !in_range(answer, passes) {
@@ -58,13 +58,20 @@ pub fn added(mut t: Tally, answer: usize, passes: usize) -> Result<Tally, Refusa
     if !is_fit(&t) {
         return Err(Refusal::NotFit);
     }
-    let place = t.tiles;
-    t.tiles += 1;
-    t.counts[answer] += 1;
-    t.passes += passes;
+    let mut counts = t.counts;
+    counts[answer] += 1;
+    let more = Tally {
+        tiles: t.tiles + 1,
+        counts,
+        passes: t.passes + passes,
+        ..t
+    };
     if t.most < passes {
-        t.most = passes;
-        t.first = place;
+        return Ok(Tally {
+            most: passes,
+            first: t.tiles,
+            ..more
+        });
     }
-    Ok(t)
+    Ok(more)
 }

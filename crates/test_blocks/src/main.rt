@@ -97,7 +97,9 @@ fn finds() {
 }
 
 // A part: its kind and its numbers, which are read to the front of room.
-fn part<'a>(room: &'a mut [u64]) -> (usize, &'a [u64]) {
+fn part<'a>(room: &'a mut [u64]) -> (usize, &'a [u64])
+    ensures { length result.1.now ≤ length room.old }
+{
     let kind = next();
     let n = bounded(room.len());
     words(&mut room[..n]);

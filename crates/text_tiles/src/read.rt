@@ -52,86 +52,94 @@ fn most_of(stage: usize) -> usize
     if stage == ANSWER { 15 } else { 15360 }
 }
 
+// The series ends.
+fn end(s: &mut Series)
+    ensures { s.new ≡ ended s.old.tally }
+{
+    s.stage = ENDED;
+    s.answer = 0;
+    s.begun = false;
+    s.value = 0;
+}
+
 // A digit more, if the number is not too large then.
-fn grown(s: Series, d: usize) -> Series
+fn grow(s: &mut Series, d: usize)
     requires { d < 10 }
-    ensures { result ≡ grown s d }
+    ensures { s.new ≡ grown s.old d }
 {
     let value = s.value.saturating_mul(10).saturating_add(d);
     if value > most_of(s.stage) {
-        return ended(s.tally);
-    }
-    Series {
-        begun: true,
-        value,
-        ..s
+        end(s);
+    } else {
+        s.begun = true;
+        s.value = value;
     }
 }
 
 // None behind a first 0.
 #[tactic(auto, unfolding(text_tiles_definition::specs::Lines::digit))]
-fn digit(s: Series, d: usize) -> Series
+fn digit(s: &mut Series, d: usize)
     requires { d < 10 }
-    ensures { result ≡ digit s d }
+    ensures { s.new ≡ digit s.old d }
 {
     if s.value == 0 && s.begun {
-        return ended(s.tally);
+        end(s);
+    } else {
+        grow(s, d);
     }
-    grown(s, d)
 }
 
 // A tile that was read: added, or refused, which ends the series.
 #[tactic(auto, unfolding(text_tiles_definition::specs::Lines::tile))]
-fn tile(t: Tally, answer: usize, passes: usize) -> Series
-    ensures { result ≡ tile t answer passes }
+fn tile(s: &mut Series)
+    ensures { s.new ≡ tile s.old.tally s.old.answer s.old.value }
 {
-    match added(t, answer, passes) {
-        Ok(sum) => fresh(sum),
-        Err(_) => ended(t),
+    match added(s.tally, s.answer, s.value) {
+        Ok(sum) => *s = fresh(sum),
+        Err(_) => end(s),
     }
 }
 
 // A number's end.
 #[tactic(auto, unfolding(text_tiles_definition::specs::Lines::closed))]
-fn closed(s: Series) -> Series
-    ensures { result ≡ closed s }
+fn close(s: &mut Series)
+    ensures { s.new ≡ closed s.old }
 {
     if !s.begun {
-        return ended(s.tally);
+        end(s);
+    } else if s.stage == ANSWER {
+        s.stage = PASSES;
+        s.answer = s.value;
+        s.begun = false;
+        s.value = 0;
+    } else {
+        tile(s);
     }
-    if s.stage == ANSWER {
-        return Series {
-            stage: PASSES,
-            answer: s.value,
-            ..fresh(s.tally)
-        };
-    }
-    tile(s.tally, s.answer, s.value)
 }
 
 #[tactic(auto, unfolding(text_tiles_definition::specs::Lines::step))]
-fn step(s: Series, b: u8) -> Series
-    ensures { result ≡ step s b }
+fn step(s: &mut Series, b: u8)
+    ensures { s.new ≡ step s.old b }
 {
     if s.stage >= ENDED {
-        return s;
+        return;
     }
     if b == end_of(s.stage) {
-        return closed(s);
+        close(s);
+    } else if b.is_ascii_digit() {
+        digit(s, (b - b'0') as usize);
+    } else {
+        end(s);
     }
-    if !b.is_ascii_digit() {
-        return ended(s.tally);
-    }
-    digit(s, (b - b'0') as usize)
 }
 
-// One piece of a text more.
+// One piece of a text more. The series is changed in place: to build it anew at each byte, with the tally in it, takes twice the time.
 pub fn read(s: Series, t: &[u8]) -> Series
     ensures { result ≡ run s t.now }
 {
     let mut x = s;
     for &b in t {
-        x = step(x, b);
+        step(&mut x, b);
     }
     x
 }

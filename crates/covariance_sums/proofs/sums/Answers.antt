@@ -1,10 +1,11 @@
+use mathlib.Core.Path.{refl, sym}
 use Rattle.answers.proofs.VerdictLaws.{on_ok, on_err, fails}
 use Rattle.covariance_sums.specs.Sums.{sums}
 use Rattle.covariance_sums.specs.SumsLaws.{sized}
 use Rattle.covariance_sums.proofs.sums.Goals as goal
 
 pub put_sums-requires : goal.put_sums-requires
-put_sums-requires c = sized _ _ _ _ (on_ok c.checks.ensures c.in-Ok.is)
+put_sums-requires c = sized _ _ _ _ (sym (on_ok c.checks.ensures c.in-Ok.is)) refl
 
 pub returns-in-Ok : goal.returns-in-Ok
 unfolding sums

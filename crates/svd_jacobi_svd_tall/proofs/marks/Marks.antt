@@ -1,7 +1,7 @@
 -- What the marks look at, part by part.
 use Rattle.leaves.specs.declared.Bad.{Bad}
-use Rattle.std.specs.Prelude.{Option}
-use mathlib.Core.Path.{◌≡◌, sym, ap, ◌∙◌}
+use Rattle.std.specs.Prelude.{Option, Some, None}
+use mathlib.Core.Path.{◌≡◌, refl, sym, ap, ◌∙◌}
 use Prim.Native.Nat.{ℕ, ◌+◌, ◌*◌, ◌≤◌}
 use native.Mathlib.Nat.{mul-le-mul}
 use native.Mathlib.Omega.{arith}
@@ -48,6 +48,12 @@ module _ (rows cols : ℕ) (w : Vec) (s : Sized rows cols w) where
   pub factors_both : {a b c r : Option Bad} → a ≡ first_bad u → b ≡ first_bad v → c ≡ behind (rows * cols) b → r ≡ option_or a c → r ≡ first_bad (factors rows cols w)
   factors_both {b = b} p q g o = in_both u v p q (g ∙ ap (λ (n : ℕ). behind n b) (sym u_long)) o
 
+  pub factors_first : {a : Option Bad} {bad : Bad} → a ≡ first_bad u → a ≡ Some bad → Some bad ≡ first_bad (factors rows cols w)
+  factors_first p s = factors_both (sym s ∙ p) refl refl refl
+
+  pub factors_second : {a b c : Option Bad} → a ≡ first_bad u → a ≡ None → b ≡ first_bad v → c ≡ behind (rows * cols) b → c ≡ first_bad (factors rows cols w)
+  factors_second p s q g = factors_both (sym s ∙ p) q g refl
+
   pub all_room : (b : Option Bad) → b ≡ first_bad (factors rows cols w) → Room cols b
   all_room b e =
       rw e (room_of_lem cols (length (factors rows cols w)) (at (factors rows cols w))
@@ -62,3 +68,10 @@ module _ (rows cols : ℕ) (w : Vec) (s : Sized rows cols w) where
   pub all_both : {a b c r : Option Bad} → a ≡ first_bad (take cols (drop (rows * cols + cols * cols) w)) → b ≡ first_bad (factors rows cols w) → c ≡ behind cols b → r ≡ option_or a c
       → r ≡ first_bad (values_factors rows cols w)
   all_both {a = a} {b = b} p q g o = in_both values (factors rows cols w) (at_values a p) q (g ∙ ap (λ (n : ℕ). behind n b) (sym values_long)) o
+
+  pub all_first : {a : Option Bad} {bad : Bad} → a ≡ first_bad (take cols (drop (rows * cols + cols * cols) w)) → a ≡ Some bad → Some bad ≡ first_bad (values_factors rows cols w)
+  all_first p s = all_both (sym s ∙ p) refl refl refl
+
+  pub all_second : {a b c : Option Bad} → a ≡ first_bad (take cols (drop (rows * cols + cols * cols) w)) → a ≡ None → b ≡ first_bad (factors rows cols w) → c ≡ behind cols b
+      → c ≡ first_bad (values_factors rows cols w)
+  all_second p s q g = all_both (sym s ∙ p) q g refl

@@ -15,20 +15,20 @@ returns-then-not-is_fit c =
     let f : fit c.args.t ≡ false = search rules in
     refused c.args.t c.args.answer c.args.passes 36 (fit_refused _ _ _ e f) (λ z. omega arith)
 
-pub overflow_add-t : goal.overflow_add-t
-overflow_add-t c =
-    let e : in_range c.args.answer c.args.passes ≡ true = search rules in
-    let f : fit c.args.t ≡ true = search rules in
-    omega (arith, room c.args.t c.args.answer c.args.passes e f)
-
-pub overflow_add-t-2 : goal.overflow_add-t-2
-overflow_add-t-2 c =
+pub overflow_add-counts : goal.overflow_add-counts
+overflow_add-counts c =
     let e : in_range c.args.answer c.args.passes ≡ true = search rules in
     let f : fit c.args.t ≡ true = search rules in
     omega (arith, count_small c.args.t c.args.answer c.args.passes (room c.args.t c.args.answer c.args.passes e f))
 
-pub overflow_add-t-3 : goal.overflow_add-t-3
-overflow_add-t-3 c =
+pub overflow_add-more : goal.overflow_add-more
+overflow_add-more c =
+    let e : in_range c.args.answer c.args.passes ≡ true = search rules in
+    let f : fit c.args.t ≡ true = search rules in
+    omega (arith, room c.args.t c.args.answer c.args.passes e f)
+
+pub overflow_add-more-2 : goal.overflow_add-more-2
+overflow_add-more-2 c =
     let e : in_range c.args.answer c.args.passes ≡ true = search rules in
     let f : fit c.args.t ≡ true = search rules in
     omega (arith, room c.args.t c.args.answer c.args.passes e f)
@@ -39,8 +39,8 @@ returns-then-t-passes c =
     let f : fit c.args.t ≡ true = search rules in
     led c.args.t c.args.answer c.args.passes 0 (not_refused _ _ _ e f) refl c.if-t-passes.true
 
-pub returns-else-t-passes : goal.returns-else-t-passes
-returns-else-t-passes c =
+pub returns : goal.returns
+returns c =
     let e : in_range c.args.answer c.args.passes ≡ true = search rules in
     let f : fit c.args.t ≡ true = search rules in
     kept c.args.t c.args.answer c.args.passes 0 (not_refused _ _ _ e f) refl c.if-t-passes.false
